@@ -1,0 +1,3 @@
+// Rights books: the interval book.
+pub mod grant;
+pub mod interval;

@@ -1,0 +1,2 @@
+// Memories: listed pages.
+pub mod listed;

@@ -1,0 +1,11 @@
+// What every part of the core speaks of: refusals, rights, guests, pages and the window,
+// and the interfaces of a memory and a rights book with their meaning.
+pub mod access;
+pub mod book;
+pub mod guest;
+pub mod memory;
+pub mod refusal;
+pub mod right;
+pub mod span;
+pub mod units;
+pub mod window;

@@ -1,0 +1,4 @@
+pub mod Readings
+pub mod Spellings
+pub mod Steps
+pub mod Wholes
