@@ -1,6 +1,7 @@
 // What every part of the core speaks of: refusals, rights, guests, pages and the window,
 // and the interfaces of a memory and a rights book with their meaning.
 pub mod access;
+pub mod address;
 pub mod book;
 pub mod guest;
 pub mod memory;
