@@ -193,9 +193,9 @@ writer (z ∷ xs) x h p c w v e =
     let d = or-parts (clashes z x) (any-clash xs x) c in
     ⊎-elim
     (λ a. let i = gives-write z h p a in
-        ⊎-elim (λ s. sym (i .by) ∙ s)
-            (λ n. let y = clash-yes z x p (i .there) v (i .right) w n in let k = d .0 in search needs)
-            (cases-eq (z .guest) (x .guest)))
+    ⊎-elim (λ s. sym (i .by) ∙ s)
+    (λ n. let y = clash-yes z x p (i .there) v (i .right) w n in let k = d .0 in search needs)
+    (cases-eq (z .guest) (x .guest)))
     (λ b. writer xs x h p (d .1) w v b)
     (greater-write (gives z h p) (granted xs h p) e)
 
@@ -205,12 +205,12 @@ one-from (x ∷ xs) os g h p t a b =
     let f = first-fits x xs os t in
     ⊎-elim
     (λ u. let i = gives-write x g p u in
-        ⊎-elim (λ v. sym (i .by) ∙ gives-write x h p v .by)
-            (λ v. sym (i .by) ∙ sym (writer xs x h p (f .alone) (i .right) (i .there) v))
-            (greater-write (gives x h p) (granted xs h p) b))
+    ⊎-elim (λ v. sym (i .by) ∙ gives-write x h p v .by)
+    (λ v. sym (i .by) ∙ sym (writer xs x h p (f .alone) (i .right) (i .there) v))
+    (greater-write (gives x h p) (granted xs h p) b))
     (λ u. ⊎-elim (λ v. let j = gives-write x h p v in writer xs x g p (f .alone) (j .right) (j .there) u ∙ j .by)
-        (λ v. one-from xs os g h p (f .rest) u v)
-        (greater-write (gives x h p) (granted xs h p) b))
+    (λ v. one-from xs os g h p (f .rest) u v)
+    (greater-write (gives x h p) (granted xs h p) b))
     (greater-write (gives x g p) (granted xs g p) a)
 
 pub one-writer : (xs : List Grant) (os : List (Option Span)) (g h p : ℕ) → tidy xs os ≡ true → granted xs g p ≡ Write → granted xs h p ≡ Write → g ≡ h

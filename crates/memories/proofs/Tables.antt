@@ -10,25 +10,20 @@ use lib.ListN.{length, getD, set, drop, replicate, length-replicate}
 use Rattle.std.proofs.shelf.Tests.{cases-lt}
 use Rattle.std.proofs.shelf.Lists.{at-drop-more, getD-replicate, getD-past}
 use Rattle.platform.specs.Memories.{Mem, put}
+use Rattle.platform.proofs.Lists.{any-push}
 use Rattle.memories.specs.declared.listed.ListedPage.{ListedPage}
 use Rattle.std.specs.declared.option.Option.the-variants.{Some}
-use Rattle.memories.specs.Listed.{lists, words-of, place-of, found-at, listed, any-had, Catalog, with-blank, with-blanks}
+use Rattle.memories.specs.Listed.{lists, words-of, place-of, found-at, listed, Catalog, with-blank, with-blanks}
 
 pub same-mem : (m n : Mem) → ((p : ℕ) → m .has p ≡ n .has p) → ((p k : ℕ) → m .word p k ≡ n .word p k) → m ≡ n
 same-mem m n h w i = record { has = fun-ext h i; word = fun-ext (λ p. fun-ext (w p)) i }
 
--- the place and presence of a page in the rest of a table, from its i-th page on
+-- the place of a page in the rest of a table, from its i-th page on
 pub place-step : (xs : List ListedPage) (i p : ℕ) (x : ListedPage) → i < length xs → x ≡ getD xs i x
     → place-of (drop i xs) p ≡ cond (eqb (x .number) p) 0 (1 + place-of (drop (i + 1) xs) p)
 place-step xs i p x l e =
     at-drop-more (λ ys. place-of ys p) xs i x l
     ∙ ap (λ (y : ListedPage). cond (eqb (y .number) p) 0 (1 + place-of (drop (i + 1) xs) p)) (sym e)
-
-pub lists-step : (xs : List ListedPage) (i p : ℕ) (x : ListedPage) → i < length xs → x ≡ getD xs i x
-    → lists (drop i xs) p ≡ (eqb (x .number) p || lists (drop (i + 1) xs) p)
-lists-step xs i p x l e =
-    at-drop-more (λ ys. lists ys p) xs i x l
-    ∙ ap (λ (y : ListedPage). eqb (y .number) p || lists (drop (i + 1) xs) p) (sym e)
 
 pub place-within : (xs : List ListedPage) (p : ℕ) → lists xs p ≡ true → place-of xs p < length xs
 place-within [] p e = search needs
@@ -74,10 +69,6 @@ listed-put xs p k w x l e b =
     (λ q j. let s = words-set xs p q y n l in let g = getD-set (x .words) k j w b in search needs)
 
 -- one page more
-lists-more : (xs : List ListedPage) (q : ℕ) (y : ListedPage) → lists (xs ++ y ∷ []) q ≡ (eqb (y .number) q || lists xs q)
-lists-more [] q y = search needs
-lists-more (x ∷ xs) q y = let h = lists-more xs q y in search needs
-
 words-more : (xs : List ListedPage) (q : ℕ) (y : ListedPage)
     → words-of (xs ++ y ∷ []) q ≡ cond (lists xs q) (words-of xs q) (cond (eqb (y .number) q) (y .words) [])
 words-more [] q y = search needs
@@ -92,21 +83,13 @@ pub listed-blank : (xs : List ListedPage) (p : ℕ)
 listed-blank xs p =
     let y : ListedPage = record { number = p; words = replicate 1024 0 } in
     same-mem (listed (xs ++ y ∷ [])) (record { has = λ q. eqb p q || lists xs q; word = λ q k. cond (lists xs q) (getD (words-of xs q) k 0) 0 })
-    (λ q. lists-more xs q y)
+    (λ q. let h = any-push (λ x. eqb (x .number) q) xs y in search needs)
     (λ q k. let h = words-more xs q y in let z = getD-zeros 1024 k in search needs)
 
 -- a loop over pages in a row, one page further
-pub any-more : (m : Mem) (p i : ℕ) → any-had m p i ≡ false → m .has (p + i) ≡ false → any-had m p (i + 1) ≡ false
-any-more m p i e f = rw (add-one i) (search needs)
-
 pub blanks-more : (c : Catalog) (p i : ℕ) → with-blanks c p (i + 1) ≡ with-blank (with-blanks c p i) (p + i)
 blanks-more c p i = ap (with-blanks c p) (add-one i)
 
 pub blanks-count : (c : Catalog) (p n : ℕ) → with-blanks c p n .count ≡ c .count + n
 blanks-count c p zero = search needs
 blanks-count c p (suc n) = let h = blanks-count c p n in search needs
-
--- one page that is there is enough
-pub any-from : (m : Mem) (p i n : ℕ) → i < n → m .has (p + i) ≡ true → any-had m p n ≡ true
-any-from m p i zero l e = search needs
-any-from m p i (suc n) l e = let h = any-from m p i n in search needs

@@ -5,6 +5,7 @@ use Prim.Native.Nat.{ℕ, zero, suc, _+_}
 use lib.Dec.{eqb, leb}
 use lib.ListN.{getD}
 use Rattle.std.specs.Of.Vec.{vec-items, vec-len}
+use Rattle.std.specs.Results.{isOk}
 use Rattle.std.specs.declared.option.Option.{Option}
 use Rattle.std.specs.declared.option.Option.the-variants.{None, Some}
 use Rattle.std.specs.declared.result.Result.{Result}
@@ -12,15 +13,15 @@ use Rattle.std.specs.declared.result.Result.the-variants.{Ok, Err}
 use Rattle.platform.specs.declared.refusal.Refusal.{Refusal}
 use Rattle.platform.specs.declared.refusal.Refusal.the-variants.{OutOfLimits, TableFull, Conflict}
 use Rattle.platform.specs.declared.span.Span.{Span}
-use Rattle.platform.specs.Spans.{fits-book, covers}
+use Rattle.platform.specs.Lists.{any, any-below}
+use Rattle.platform.specs.Spans.{fits-book}
 use Rattle.platform.specs.Memories.{Mem, written}
 use Rattle.memories.specs.declared.listed.ListedPage.{ListedPage}
 use Rattle.memories.specs.declared.listed.ListedPages.{ListedPages}
 
 -- whether a page is listed
 abbrev pub lists : List ListedPage → ℕ → Bool
-lists [] p = false
-lists (x ∷ xs) p = eqb (x .number) p || lists xs p
+lists xs p = any (λ x. eqb (x .number) p) xs
 
 -- the words of a listed page, none of one that is not
 abbrev pub words-of : List ListedPage → ℕ → List ℕ
@@ -64,8 +65,7 @@ with-blanks c p (suc n) = with-blank (with-blanks c p n) (p + n)
 
 -- whether one of n pages from page p on is there
 abbrev pub any-had : Mem → ℕ → ℕ → Bool
-any-had m p zero = false
-any-had m p (suc n) = m .has (p + n) || any-had m p n
+any-had m p n = any-below (λ i. m .has (p + i)) n
 
 -- the refusal of a span, if any: bad limits, then no room, then a page that is listed already
 abbrev pub list-answer : Catalog → Span → Result (Unit {0}) Refusal
@@ -76,13 +76,9 @@ list-answer c s =
     (Err TableFull))
     (Err OutOfLimits)
 
-abbrev pub accepted : Result (Unit {0}) Refusal → Bool
-accepted (Ok x) = true
-accepted (Err e) = false
-
 -- all pages of the span listed, or, where it is refused, all as it was
 abbrev pub list-after : Catalog → Span → Catalog
-list-after c s = cond (accepted (list-answer c s)) (with-blanks c (s .first) (s .count)) c
+list-after c s = cond (isOk (list-answer c s)) (with-blanks c (s .first) (s .count)) c
 
 -- what a write leaves
 abbrev pub catalog-written : Catalog → ℕ → ℕ → ℕ → Catalog

@@ -1,4 +1,4 @@
 pub mod Readings
 pub mod Spellings
 pub mod Steps
-pub mod Wholes
+pub mod Laws

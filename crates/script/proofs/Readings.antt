@@ -1,5 +1,5 @@
 -- What some bytes begin with, by what is known of them.
-use mathlib.Core.Path.{_≡_, refl, ap, _∙_}
+use mathlib.Core.Path.{_≡_, ap}
 use mathlib.Core.List.{List}
 use Prim.Native.Nat.{ℕ, _+_, _-_, _<_, _≤_}
 use native.Mathlib.Omega.{arith}
@@ -31,8 +31,8 @@ pub reads-record : (xs : List ℕ) → 2 ≤ field xs 0 2 → 2 + field xs 0 2 �
 reads-record xs a b = grind (arith, tells)
 
 -- a body of n bytes, as the code cuts it out
-pub body-is : (xs : List ℕ) (n : ℕ) → take (n - 0) (take (length xs - 4) (drop 4 xs)) ≡ take n (drop 4 xs)
-body-is xs n = let z : n - 0 ≡ n = omega arith in rw (tail-is xs 4, z)
+pub body-is : (xs : List ℕ) (n : ℕ) → take n (take (length xs - 4) (drop 4 xs)) ≡ take n (drop 4 xs)
+body-is xs n = ap (take n) (tail-is xs 4)
 
 pub body-length : (xs : List ℕ) (n : ℕ) → 4 + n ≤ length xs → length (take n (drop 4 xs)) ≡ n
 body-length xs n h = length-take-le n (drop 4 xs) (omega (arith, length-drop 4 xs))

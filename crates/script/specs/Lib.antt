@@ -3,4 +3,4 @@ pub mod Records
 pub mod Readers
 pub mod Commands
 pub mod Scripts
-pub mod Wholes
+pub mod Laws

@@ -16,13 +16,21 @@ use platform::refusal::Refusal;
 
 // The lengths of bodies in bytes, each named by the fields that it holds.
 const NO_FIELD: usize = 0;
+
 const GUEST: usize = BYTE;
+
 const ADDRESS: usize = WORD;
+
 const ADDRESS_ACCESS: usize = WORD + BYTE;
+
 const ADDRESS_WORD: usize = WORD + WORD;
+
 const FIRST_COUNT: usize = WORD + WORD;
+
 const PAGE_PLACE_WORD: usize = WORD + HALFWORD + WORD;
+
 const GUEST_FIRST_COUNT: usize = BYTE + WORD + WORD;
+
 const GUEST_FIRST_COUNT_RIGHT: usize = BYTE + WORD + WORD + BYTE;
 
 // The command of a record that sets up.

@@ -6,7 +6,9 @@ ghost use Rattle.script.specs.Fields.{field};
 
 // The sizes of fields, in bytes.
 pub const BYTE: usize = 1;
+
 pub const HALFWORD: usize = 2;
+
 pub const WORD: usize = 4;
 
 // The byte at an offset.
@@ -30,5 +32,10 @@ pub fn word_at(body: &[u8], offset: usize) -> u32
     requires { ⌜ offset + 4 ≤ length (now body) ⌝ }
     ensures answer { λ r. ⌜ r ≡ field (now (body .entry)) offset 4 ⌝ }
 {
-    u32::from_le_bytes([body[offset], body[offset + 1], body[offset + 2], body[offset + 3]])
+    u32::from_le_bytes([
+        body[offset],
+        body[offset + 1],
+        body[offset + 2],
+        body[offset + 3],
+    ])
 }

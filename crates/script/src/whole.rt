@@ -1,11 +1,13 @@
 // A whole script, read to its end or to the first record that is refused.
 ghost use mathlib.Core.Path.{_≡_};
-ghost use Rattle.std.specs.Of.Vec.{vec-items};
+ghost use Prim.Native.Nat.{_*_, _≤_};
+ghost use lib.ListN.{length};
+ghost use Rattle.std.specs.Of.Vec.{vec-items, vec-len};
 ghost use Rattle.std.specs.Vec.{made};
 ghost use Rattle.script.specs.Records.{place-after, Spelled};
 ghost use Rattle.script.specs.Readers.{left, ahead};
 ghost use Rattle.script.specs.Scripts.{step, contents, script-of};
-ghost use Rattle.script.specs.Wholes.{ReadsWhole};
+ghost use Rattle.script.specs.Laws.{ReadsWhole};
 use super::command::Command;
 use super::kinds;
 use super::reader::ScriptReader;
@@ -19,10 +21,7 @@ pub enum Ending {
     // The script was read to its end.
     Complete,
     // A record is refused; its kind is 0 where it is cut.
-    Refused {
-        kind: u16,
-        refusal: Refusal,
-    },
+    Refused { kind: u16, refusal: Refusal },
 }
 
 // The commands of a script, in order, and why reading stopped after them.
@@ -57,10 +56,11 @@ impl<'a> ScriptReader<'a> {
     }
 }
 
-// Reads a script to its end, or to the first record that is refused.
+// Reads a script to its end, or to the first record that is refused. A command takes four bytes at least.
 pub fn read_script(heap: Global, input: &[u8]) -> Result<Script, AllocError>
     ensures answer { λ r. ⌜ made r (λ s. contents s ≡ script-of (now (input .entry))) ⌝ }
     ensures law { λ r. ⌜ made r (λ s. ReadsWhole (now (input .entry)) (vec-items (s .commands)) (s .ending)) ⌝ }
+    ensures bound { λ r. ⌜ made r (λ s. 4 * vec-len (s .commands) ≤ length (now (input .entry))) ⌝ }
 {
     let mut commands = Vec::new(heap);
     let mut reader = ScriptReader::new(input);

@@ -17,13 +17,17 @@ use std::alloc::Global;
 
 // The fewest and the most pages of a pool.
 const POOL_LEAST: u32 = 2;
+
 const POOL_MOST: u32 = 64;
 
 // Whether two grants let two guests write one page.
 fn clash(x: &Grant, y: &Grant) -> bool
     ensures answer { λ r. ⌜ r ≡ clashes (now (x .entry)) (now (y .entry)) ⌝ }
 {
-    x.guest != y.guest && x.span.overlaps(y.span) && matches!(x.right, Right::Write) && matches!(y.right, Right::Write)
+    x.guest != y.guest
+        && x.span.overlaps(y.span)
+        && matches!(x.right, Right::Write)
+        && matches!(y.right, Right::Write)
 }
 
 // Whether a pool, if any, lies over a span.

@@ -1,7 +1,7 @@
 // How a reader starts, and how it finds the next record.
 ghost use mathlib.Core.Path.{_≡_};
 ghost use Rattle.script.specs.Records.{seen, place-after, Spelled};
-ghost use Rattle.script.specs.Readers.{left, ahead};
+ghost use Rattle.script.specs.Readers.{Stands, left, ahead};
 use super::ScriptReader;
 use crate::fields::HALFWORD;
 use crate::record::Record;
@@ -9,13 +9,13 @@ use platform::refusal::Refusal;
 
 // A record begins with its length, which counts the bytes of the kind and of the body.
 const LENGTH_SIZE: usize = HALFWORD;
+
 const KIND_SIZE: usize = HALFWORD;
 
 impl<'a> ScriptReader<'a> {
     // A reader at the start of a script.
     pub fn new(input: &'a [u8]) -> ScriptReader<'a>
-        ensures input { λ r. ⌜ now (r .input) ≡ now (input .entry) ⌝ }
-        ensures place { λ r. ⌜ r .place ≡ 0 ⌝ }
+        ensures answer { λ r. ⌜ Stands r (now (input .entry)) 0 ⌝ }
     {
         ScriptReader { input, place: 0 }
     }

@@ -1,7 +1,7 @@
 -- What holds of the part of a script that was read, and of all of it.
 use mathlib.Core.Path.{_≡_, refl, sym, ap, subst, _∙_}
 use mathlib.Core.List.{List, [], _∷_, _++_, map, append-assoc, append-nil, map-append}
-use mathlib.Core.Logic.{_⊎_, inl, inr}
+use mathlib.Core.Logic.{inl, inr}
 use Prim.Native.Nat.{ℕ}
 use native.Mathlib.Omega.{arith}
 use lib.ListN.{length, drop}
@@ -17,7 +17,7 @@ use Rattle.script.specs.declared.whole.Ending.the-variants.{Complete, Refused}
 use Rattle.script.specs.Records.{Reading, found, refused, ended, reading, reading-at, spelling, Spelled}
 use Rattle.script.specs.Commands.{command-of}
 use Rattle.script.specs.Scripts.{admitted, step}
-use Rattle.script.specs.Wholes.{RawRecord, spellings, said, Stops, ReadsWhole}
+use Rattle.script.specs.Laws.{RawRecord, spellings, said, Stops, ReadsWhole}
 
 -- the records before a place, and the commands that they say
 pub record ReadTo (xs : List ℕ) (place : ℕ) (commands : List Command) : Type 0 where
@@ -44,14 +44,14 @@ read-record xs p q commands command r t says here =
     record {
       records = t .records ++ r ∷ [];
       spelled =
-      t .spelled
-      ∙ ap (λ (ys : List ℕ). spellings (t .records) ++ ys) here
-      ∙ sym (append-assoc (spellings (t .records)) (spelling (r .kind) (r .body)) (drop q xs))
-      ∙ ap (λ (ys : List ℕ). ys ++ drop q xs) (sym a);
+          t .spelled
+          ∙ ap (λ (ys : List ℕ). spellings (t .records) ++ ys) here
+          ∙ sym (append-assoc (spellings (t .records)) (spelling (r .kind) (r .body)) (drop q xs))
+          ∙ ap (λ (ys : List ℕ). ys ++ drop q xs) (sym a);
       decoded =
-      map-append said (t .records) (r ∷ [])
-      ∙ (λ i. t .decoded i ++ says i ∷ [])
-      ∙ sym (map-append Ok commands (command ∷ []));
+          map-append said (t .records) (r ∷ [])
+          ∙ (λ i. t .decoded i ++ says i ∷ [])
+          ∙ sym (map-append Ok commands (command ∷ []));
     }
 
 admits : (kind : ℕ) (command : Command) (s : Result Command Refusal) → admitted kind s ≡ Ok command → s ≡ Ok command

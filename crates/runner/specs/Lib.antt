@@ -1,0 +1,5 @@
+pub mod Enrolment
+pub mod States
+pub mod Setups
+pub mod Starts
+pub mod Turns
