@@ -13,7 +13,7 @@ use std::fmt;
 // The number of a record in its script, its kind, and what came of it.
 #[derive(Clone, Copy)]
 pub struct Line {
-    pub number: u32,
+    pub number: u64,
     pub kind: u16,
     pub outcome: Outcome,
 }

@@ -3,3 +3,4 @@ pub mod States
 pub mod Setups
 pub mod Starts
 pub mod Turns
+pub mod Reports
