@@ -22,6 +22,7 @@ const LIMIT: usize = 16_384;
 
 // The kinds of the calls that touch tables, which are not served yet.
 const FIRST_UNSERVED: u16 = 20;
+
 const LAST_UNSERVED: u16 = 24;
 
 // Why a record of some kind is refused: a kind that is not served yet is unknown, whatever the body.

@@ -5,8 +5,6 @@ use listing::Outcome;
 use memories::listed::ListedPages;
 use platform::window::Window;
 
-
-
 mod perform;
 mod setup;
 mod start;

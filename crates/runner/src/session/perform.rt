@@ -61,8 +61,12 @@ impl Session {
     {
         match command {
             Command::Window { first, count } => go_on(done(self.set_window(first, count))),
-            Command::Present { first, count } => go_on(done(self.memory.list(Span { first, count }))),
-            Command::Word { page, place, word } => go_on(done(self.memory.put(page, u32::from(place), word))),
+            Command::Present { first, count } => go_on(done(
+                self.memory.list(Span { first, count }),
+            )),
+            Command::Word { page, place, word } => go_on(done(
+                self.memory.put(page, u32::from(place), word),
+            )),
             Command::Pool {
                 guest,
                 first,
@@ -82,9 +86,11 @@ impl Session {
                 Ok(()) => go_on(Outcome::Done),
                 Err(refusal) => stop(Outcome::Refused(refusal)),
             },
-            Command::Schedule { .. } | Command::Switch { .. } | Command::PagingOn | Command::PagingOff | Command::Status => {
-                go_on(Outcome::Refused(Refusal::WrongPhase))
-            }
+            Command::Schedule { .. }
+            | Command::Switch { .. }
+            | Command::PagingOn
+            | Command::PagingOff
+            | Command::Status => { go_on(Outcome::Refused(Refusal::WrongPhase)) }
             _ => stop(Outcome::Refused(Refusal::UnknownKind)),
         }
     }
@@ -101,9 +107,11 @@ impl Session {
             Command::PagingOn => go_on(done(self.guests.set_paging(true))),
             Command::PagingOff => go_on(done(self.guests.set_paging(false))),
             Command::Status => go_on(paired(self.guests.status())),
-            Command::Flush | Command::FlushPage { .. } | Command::Fault { .. } | Command::Load { .. } | Command::Store { .. } => {
-                stop(Outcome::Refused(Refusal::UnknownKind))
-            }
+            Command::Flush
+            | Command::FlushPage { .. }
+            | Command::Fault { .. }
+            | Command::Load { .. }
+            | Command::Store { .. } => { stop(Outcome::Refused(Refusal::UnknownKind)) }
             _ => go_on(Outcome::Refused(Refusal::WrongPhase)),
         }
     }

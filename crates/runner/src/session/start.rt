@@ -18,7 +18,8 @@ impl Session {
     fn is_short(&self, count: u32, guest: Guest) -> bool
         ensures answer { λ r. ⌜ r ≡ short-guest (state (now (self .entry))) count guest ⌝ }
     {
-        self.book.has_pool(guest) && enrollable(&self.memory, &self.book, count, guest) < LEAST_PAGES
+        self.book.has_pool(guest)
+            && enrollable(&self.memory, &self.book, count, guest) < LEAST_PAGES
     }
 
     // Whether that is so of some guest.
