@@ -54,7 +54,7 @@ words-set : (xs : List ListedPage) (p q : ℕ) (y : ListedPage) → y .number �
 words-set [] p q y e l = search needs
 words-set (x ∷ xs) p q y e l = let h = words-set xs p q y e in search needs
 
-getD-set : (xs : List ℕ) (k j w : ℕ) → k < length xs → getD (set xs k w) j 0 ≡ cond (eqb j k) w (getD xs j 0)
+pub getD-set : (xs : List ℕ) (k j w : ℕ) → k < length xs → getD (set xs k w) j 0 ≡ cond (eqb j k) w (getD xs j 0)
 getD-set xs k j w l = search needs
 
 pub listed-put : (xs : List ListedPage) (p k w : ℕ) (x : ListedPage) → lists xs p ≡ true → x ≡ getD xs (place-of xs p) x

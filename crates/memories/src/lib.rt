@@ -1,2 +1,3 @@
-// Memories: listed pages.
+// Memories: words in a row, and listed pages.
+pub mod flat;
 pub mod listed;

@@ -1,0 +1,4 @@
+pub mod Sets
+pub mod Shares
+pub mod Stacks
+pub mod Values

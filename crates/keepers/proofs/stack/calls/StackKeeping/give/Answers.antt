@@ -1,0 +1,16 @@
+use borrow.Author.Needs.{needs}
+use mathlib.Core.Path.{_∙_}
+use Rattle.std.specs.Of.Vec.{vec-items}
+use Rattle.keepers.specs.Stacks.{stack-share, newest-last}
+use Rattle.keepers.proofs.Shares.{kept-give-answer, kept-given}
+use Rattle.keepers.proofs.Stacks.{stacks-pushed}
+use Rattle.keepers.proofs.stack.calls.StackKeeping.give.Needs as need
+
+pub returns : need.returns
+returns c =
+    let xs = vec-items (c .args .self .now .stacks) in
+    record {
+      answer = c .give .ensures .answer ∙ kept-give-answer stack-share xs (search needs) (c .args .guest) (search needs) (c .index-mut .result .now) (search needs) (c .args .page);
+      after = kept-given stack-share xs (search needs) (c .args .guest) (search needs) (c .index-mut .result .now) (search needs) (c .give .last .self) (c .args .page) (c .give .ensures .after);
+      stack = stacks-pushed newest-last xs (search needs) (c .args .guest) (search needs) (c .index-mut .result .now) (search needs) (c .give .last .self) (c .args .page) (c .give .result) (c .give .ensures .stack);
+    }

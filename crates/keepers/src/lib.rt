@@ -1,0 +1,3 @@
+// Page keepers: one that keeps stacks, one that keeps marks.
+mod search;
+pub mod stack;
