@@ -9,7 +9,7 @@ use Prim.Native.Nat.{ℕ, zero, suc, _+_, _-_, _<_, _≤_}
 use native.Mathlib.Numerals.{add-one}
 use lib.Dec.{eqb, leb}
 use lib.ListN.{length, getD, set}
-use Rattle.std.proofs.shelf.Tests.{cond-true, cond-false, cases-bool, or-from}
+use Rattle.std.proofs.shelf.Tests.{cond-true, cond-false, cases-bool, or-left, or-parts}
 use Rattle.std.specs.Results.{isOk}
 use Rattle.std.specs.declared.result.Result.{Result}
 use Rattle.std.specs.declared.result.Result.the-variants.{Ok, Err}
@@ -18,7 +18,7 @@ use Rattle.platform.specs.declared.refusal.Refusal.the-variants.{GuestOutOfRang
 use Rattle.platform.specs.Guests.{is-guest}
 use Rattle.platform.specs.Keepers.{Keep, emptied, is-enrolled, with-page, marked, enrol-answer, enrol-after, give-answer, give-after, free-answer, free-count, take-refusal, Taken}
 use Rattle.platform.specs.Lists.{any, any-below, member, count}
-use Rattle.keepers.specs.Shares.{Share, no-share, value-at, by-guest, changed, keep-of, share-with, share-marked, share-give-answer, share-give-after, ShareTaken}
+use Rattle.keepers.specs.Shares.{Share, no-share, value-at, by-guest, changed, keep-of, share-with, share-marked, share-enrol-answer, share-enrol-after, share-give-answer, share-give-after, ShareTaken}
 use Rattle.keepers.proofs.Sets.{count-some}
 use Rattle.keepers.proofs.Values.{guest-read, guest-set, changed-same}
 
@@ -57,13 +57,31 @@ keep-marked s g p b =
 abbrev refused-if : Bool → Result (Unit {0}) Refusal
 refused-if b = cond b (Err KeeperRefuses) (Ok tt)
 
+enrol-guest : (k : Keep) (g p : ℕ) → is-guest g ≡ true → enrol-answer k g p ≡ refused-if (is-enrolled k p || leb 64 (length (k .pages g)))
+enrol-guest k g p o = cond-true (is-guest g) (refused-if (is-enrolled k p || leb 64 (length (k .pages g)))) (Err GuestOutOfRange) o
+
+-- where no item passes, the i-th does not
+pub any-not : {A : Type 0} (t : A → Bool) (xs : List A) (i : ℕ) (x : A) → any t xs ≡ false → i < length xs → x ≡ getD xs i x → t x ≡ false
+any-not t [] i x a l e = search needs
+any-not t (y ∷ xs) zero x a l e = ap t e ∙ or-parts (t y) (any t xs) a .0
+any-not t (y ∷ xs) (suc i) x a l e = any-not t xs i x (or-parts (t y) (any t xs) a .1) (search needs) e
+
 -- a keeper of eight parts, of which x is guest g's
 module _ {A : Type 0} (f : A → Share) (xs : List A) (l : length xs ≡ 8) where
   pub enrolled-any : (p : ℕ) → is-enrolled (keep-of (by-guest no-share f xs)) p ≡ any (λ x. member p (f x .pages)) xs
   enrolled-any p =
-    below-same (λ i. member p (by-guest no-share f xs (i + 1) .pages)) (λ i. member p (value-at no-share f xs i .pages)) 8 (λ i h. search needs)
-    ∙ ap (any-below (λ i. member p (value-at no-share f xs i .pages))) (sym l)
-    ∙ below-any f p xs
+      below-same (λ i. member p (by-guest no-share f xs (i + 1) .pages)) (λ i. member p (value-at no-share f xs i .pages)) 8 (λ i h. search needs)
+      ∙ ap (any-below (λ i. member p (value-at no-share f xs i .pages))) (sym l)
+      ∙ below-any f p xs
+
+  -- a page that some guest has
+  pub kept-held : (g p : ℕ) → is-guest g ≡ true → any (λ z. member p (f z .pages)) xs ≡ true
+      → (Err KeeperRefuses ≡ enrol-answer (keep-of (by-guest no-share f xs)) g p)
+      × (keep-of (by-guest no-share f xs) ≡ enrol-after (keep-of (by-guest no-share f xs)) g p)
+  kept-held g p o a =
+      let k = keep-of (by-guest no-share f xs) in
+      let q = enrol-guest k g p o ∙ ap refused-if (or-left (is-enrolled k p) (leb 64 (length (k .pages g))) (enrolled-any p ∙ a)) in
+      (sym q, sym (cond-false (isOk (enrol-answer k g p)) (with-page k g p) k (ap isOk q)))
 
   module _ (g : ℕ) (o : is-guest g ≡ true) (x : A) (e : x ≡ getD xs (g - 1) x) where
     share-is : by-guest no-share f xs g ≡ f x
@@ -118,29 +136,23 @@ module _ {A : Type 0} (f : A → Share) (xs : List A) (l : length xs ≡ 8) wher
         ∙ sym (cond-false (isOk (give-answer k g p)) (marked k g p true) k (ap isOk (sym q) ∙ t)))
         (cases-bool (isOk (share-give-answer (f x) p)))
 
-    -- whether an enrolment is refused
-    pub kept-enrol-answer : (p : ℕ) (b : Bool) → (any (λ z. member p (f z .pages)) xs || leb 64 (length (f x .pages))) ≡ b
-        → enrol-answer (keep-of (by-guest no-share f xs)) g p ≡ cond b (Err KeeperRefuses) (Ok tt)
-    kept-enrol-answer p b a =
+    -- a page that no guest has yet
+    pub kept-enrol-answer : (p : ℕ) → any (λ z. member p (f z .pages)) xs ≡ false
+        → share-enrol-answer (f x) ≡ enrol-answer (keep-of (by-guest no-share f xs)) g p
+    kept-enrol-answer p a =
         let k = keep-of (by-guest no-share f xs) in
-        let n = ap (λ (s : Share). leb 64 (length (s .pages))) share-is in
-        cond-true (is-guest g) (cond (is-enrolled k p || leb 64 (length (k .pages g))) (Err KeeperRefuses) (Ok tt)) (Err GuestOutOfRange) o
-        ∙ ap (λ (c : Bool). refused-if (c || leb 64 (length (k .pages g)))) (enrolled-any p)
-        ∙ ap (λ (c : Bool). refused-if (any (λ z. member p (f z .pages)) xs || c)) n
-        ∙ ap refused-if a
+        ap share-enrol-answer (sym share-is)
+        ∙ ap (λ (c : Bool). refused-if (c || leb 64 (length (k .pages g)))) (sym (enrolled-any p ∙ a))
+        ∙ sym (enrol-guest k g p o)
 
-    pub kept-enrolled : (y : A) (p : ℕ) → any (λ z. member p (f z .pages)) xs ≡ false → leb 64 (length (f x .pages)) ≡ false → f y ≡ share-with (f x) p
-        → (Ok tt ≡ enrol-answer (keep-of (by-guest no-share f xs)) g p)
-        × (keep-of (by-guest no-share f (set xs (g - 1) y)) ≡ enrol-after (keep-of (by-guest no-share f xs)) g p)
-    kept-enrolled y p a b s =
+    pub kept-enrolled : (y : A) (p : ℕ) → any (λ z. member p (f z .pages)) xs ≡ false → f y ≡ share-enrol-after (f x) p
+        → keep-of (by-guest no-share f (set xs (g - 1) y)) ≡ enrol-after (keep-of (by-guest no-share f xs)) g p
+    kept-enrolled y p n a =
         let k = keep-of (by-guest no-share f xs) in
-        let q = kept-enrol-answer p false (or-from _ _ a b) in
-        (sym q, kept-with y p s ∙ sym (cond-true (isOk (enrol-answer k g p)) (with-page k g p) k (ap isOk q)))
-
-    pub kept-unenrolled : (p : ℕ) → (any (λ z. member p (f z .pages)) xs || leb 64 (length (f x .pages))) ≡ true
-        → (Err KeeperRefuses ≡ enrol-answer (keep-of (by-guest no-share f xs)) g p)
-        × (keep-of (by-guest no-share f xs) ≡ enrol-after (keep-of (by-guest no-share f xs)) g p)
-    kept-unenrolled p a =
-        let k = keep-of (by-guest no-share f xs) in
-        let q = kept-enrol-answer p true a in
-        (sym q, sym (cond-false (isOk (enrol-answer k g p)) (with-page k g p) k (ap isOk q)))
+        let q = kept-enrol-answer p n in
+        ⊎-elim
+        (λ t. kept-with y p (a ∙ cond-true (isOk (share-enrol-answer (f x))) _ _ t)
+        ∙ sym (cond-true (isOk (enrol-answer k g p)) (with-page k g p) k (ap isOk (sym q) ∙ t)))
+        (λ t. kept-same y (a ∙ cond-false (isOk (share-enrol-answer (f x))) _ _ t)
+        ∙ sym (cond-false (isOk (enrol-answer k g p)) (with-page k g p) k (ap isOk (sym q) ∙ t)))
+        (cases-bool (isOk (share-enrol-answer (f x))))

@@ -3,7 +3,7 @@ use borrow.Author.Needs.{needs}
 use mathlib.Core.Path.{_≡_, refl, sym, ap, _∙_, fun-ext}
 use mathlib.Core.Bool.{Bool, true, false, cond, not, _&&_, _||_}
 use mathlib.Core.List.{List, [], _∷_, _++_}
-use Prim.Native.Nat.{ℕ, _-_}
+use Prim.Native.Nat.{ℕ, _-_, _<_}
 use lib.Dec.{eqb}
 use lib.ListN.{length, getD, set}
 use Rattle.std.proofs.shelf.Lists.{append-nil}
@@ -16,8 +16,8 @@ use Rattle.platform.specs.declared.refusal.Refusal.the-variants.{KeeperRefuses}
 use Rattle.platform.specs.Guests.{is-guest}
 use Rattle.platform.specs.Lists.{member, count}
 use Rattle.keepers.specs.Sets.{distinct, stacked}
-use Rattle.keepers.specs.Shares.{Share, by-guest, changed, share-with, share-marked, share-give-answer, share-give-after, ShareTaken}
-use Rattle.keepers.specs.Stacks.{pushed-if, TopOff, TopTaken}
+use Rattle.keepers.specs.Shares.{Share, by-guest, changed, share-with, share-marked, share-enrol-answer, share-enrol-after, share-give-answer, share-give-after, ShareTaken}
+use Rattle.keepers.specs.Stacks.{TopOff, TopTaken}
 use Rattle.keepers.proofs.Sets.{member-push, distinct-front, in-all, stacked-parts, stacked-count}
 use Rattle.keepers.proofs.Shares.{same-share}
 use Rattle.keepers.proofs.Values.{guest-read, guest-set, guest-same}
@@ -26,20 +26,23 @@ abbrev sh : List ℕ → List ℕ → Share
 sh ps fs = record { pages = ps; free = λ p. member p fs }
 
 -- a page enrolled
-pub stack-added : (ps fs ps′ fs′ : List ℕ) (p : ℕ) → ps′ ≡ ps ++ p ∷ [] → fs′ ≡ fs ++ p ∷ []
-    → _≡_ {A = Share} (record { pages = ps′; free = λ q. member q fs′ }) (share-with (record { pages = ps; free = λ q. member q fs }) p)
-stack-added ps fs ps′ fs′ p a b =
+pub stack-added : (ps fs ps′ fs′ : List ℕ) (p : ℕ) → length ps < 64 → ps′ ≡ ps ++ p ∷ [] → fs′ ≡ fs ++ p ∷ []
+    → _≡_ {A = Share} (record { pages = ps′; free = λ q. member q fs′ }) (share-enrol-after (record { pages = ps; free = λ q. member q fs }) p)
+stack-added ps fs ps′ fs′ p l a b =
+    let t : isOk (share-enrol-answer (sh ps fs)) ≡ true = search needs in
     same-share (sh ps′ fs′) (share-with (sh ps fs) p) a (λ q. let m = ap (member q) b ∙ member-push fs p q in search needs)
+    ∙ sym (cond-true (isOk (share-enrol-answer (sh ps fs))) _ _ t)
 
 -- a page freed
 pub stack-given : (ps fs fs′ : List ℕ) (p : ℕ) → member p ps ≡ true → member p fs ≡ false → fs′ ≡ fs ++ p ∷ []
     → (Ok tt ≡ share-give-answer (record { pages = ps; free = λ q. member q fs }) p)
     × (_≡_ {A = Share} (record { pages = ps; free = λ q. member q fs′ }) (share-give-after (record { pages = ps; free = λ q. member q fs }) p))
 stack-given ps fs fs′ p m n b =
-    let a : Ok tt ≡ share-give-answer (sh ps fs) p = search needs in
-    ( a
-    , same-share (sh ps fs′) (share-marked (sh ps fs) p true) refl (λ q. let e = ap (member q) b ∙ member-push fs p q in search needs)
-    ∙ sym (cond-true (isOk (share-give-answer (sh ps fs) p)) _ _ (ap isOk (sym a))) )
+    let a : Ok tt ≡ share-give-answer (sh ps fs) p = search needs in (
+      a,
+      same-share (sh ps fs′) (share-marked (sh ps fs) p true) refl (λ q. let e = ap (member q) b ∙ member-push fs p q in search needs)
+          ∙ sym (cond-true (isOk (share-give-answer (sh ps fs) p)) _ _ (ap isOk (sym a))),
+    )
 
 -- the page on top taken
 pub stack-taken : (ps fs fs′ : List ℕ) (p : ℕ) → stacked ps fs ≡ true → fs ≡ fs′ ++ p ∷ []
@@ -60,12 +63,6 @@ stack-untaken ps fs fs′ s l e = (refl, stacked-count ps fs s ∙ l, ap (λ xs.
 
 -- the stacks of all guests, of which x's is guest g's
 module _ {A : Type 0} (f : A → List ℕ) (xs : List A) (l : length xs ≡ 8) (g : ℕ) (o : is-guest g ≡ true) (x : A) (e : x ≡ getD xs (g - 1) x) where
-  pub stacks-pushed : (y : A) (p : ℕ) (r : Result (Unit {0}) Refusal) → f y ≡ cond (isOk r) (f x ++ p ∷ []) (f x)
-      → by-guest [] f (set xs (g - 1) y) ≡ pushed-if r (by-guest [] f xs) g p
-  stacks-pushed y p (Ok u) a =
-      guest-set [] f xs g y o l ∙ ap (changed (by-guest [] f xs) g) (a ∙ ap (λ (s : List ℕ). s ++ p ∷ []) (sym (guest-read [] f xs g x o l e)))
-  stacks-pushed y p (Err m) a = guest-same [] f xs g x y o l e a
-
   pub top-taken : (y : A) (r : Result ℕ Refusal) → TopOff (f x) r (f y) → TopTaken (by-guest [] f xs) g r (by-guest [] f (set xs (g - 1) y))
   top-taken y (Ok p) t =
       let s = guest-set [] f xs g y o l in

@@ -7,7 +7,7 @@ use mathlib.Core.List.{List, [], _∷_, _++_}
 use Prim.Native.Nat.{ℕ, zero, suc, _+_, _-_, _<_, _≤_}
 use lib.Dec.{eqb}
 use lib.ListN.{length, getD, set}
-use Rattle.std.proofs.shelf.Tests.{cond-true}
+use Rattle.std.proofs.shelf.Tests.{cond-true, cond-false}
 use Rattle.platform.specs.Guests.{is-guest}
 use Rattle.keepers.specs.Shares.{value-at, by-guest, changed}
 
@@ -51,9 +51,28 @@ module _ {A B : Type 0} (d : B) (f : A → B) where
   guest-same xs g x y o l e a =
       guest-set xs g y o l ∙ changed-same (by-guest d f xs) g (f y) (a ∙ sym (guest-read xs g x o l e))
 
+  pub guest-changed : (xs : List A) (g : ℕ) (x y : A) (t : B → B) → is-guest g ≡ true → length xs ≡ 8 → x ≡ getD xs (g - 1) x → f y ≡ t (f x)
+      → by-guest d f (set xs (g - 1) y) ≡ changed (by-guest d f xs) g (t (by-guest d f xs g))
+  guest-changed xs g x y t o l e a =
+      guest-set xs g y o l ∙ ap (changed (by-guest d f xs) g) (a ∙ ap t (sym (guest-read xs g x o l e)))
+
+  -- changed where b says so, else all as it was
+  pub guest-if : (xs : List A) (g : ℕ) (x y : A) (t : B → B) (b : Bool) → is-guest g ≡ true → length xs ≡ 8 → x ≡ getD xs (g - 1) x
+      → f y ≡ cond b (t (f x)) (f x)
+      → by-guest d f (set xs (g - 1) y) ≡ cond b (changed (by-guest d f xs) g (t (by-guest d f xs g))) (by-guest d f xs)
+  guest-if xs g x y t true o l e a = guest-changed xs g x y t o l e a
+  guest-if xs g x y t false o l e a = guest-same xs g x y o l e a
+
+  -- a number that names no guest has d
+  pub guest-none : (xs : List A) (g : ℕ) → is-guest g ≡ false → by-guest d f xs g ≡ d
+  guest-none xs g o = cond-false (is-guest g) (value-at d f xs (g - 1)) d o
+
   -- one plain item after the other
-  pub plain-push : (xs : List A) (y : A) → Plain d f xs (length xs) → f y ≡ d → Plain d f (xs ++ y ∷ []) (length xs + 1)
-  plain-push xs y h e j l = let v = value-push xs y j in let k = h j in search needs
+  pub plain-push : (xs ys : List A) (y : A) (n m : ℕ) → ys ≡ xs ++ y ∷ [] → n ≡ length xs → m ≡ n + 1 → Plain d f xs n → f y ≡ d → Plain d f ys m
+  plain-push xs ys y n m a b c h e j l =
+      let v = ap (λ (zs : List A). value-at d f zs j) a ∙ value-push xs y j in
+      let k = h j in
+      search needs
 
   pub plain-set : (xs : List A) (i : ℕ) (y : A) → i < length xs → Plain d f xs i → f y ≡ d → Plain d f (set xs i y) (i + 1)
   plain-set xs i y b h e j l = let v = value-set xs i j y b in let k = h j in search needs

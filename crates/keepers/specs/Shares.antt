@@ -3,7 +3,8 @@ use mathlib.Core.Path.{_≡_}
 use mathlib.Core.Bool.{Bool, true, false, cond, not, _&&_}
 use mathlib.Core.List.{List, [], _∷_, _++_}
 use Prim.Native.Nat.{ℕ, zero, suc, _-_}
-use lib.Dec.{eqb}
+use lib.Dec.{eqb, leb}
+use lib.ListN.{length}
 use Rattle.std.specs.Results.{isOk}
 use Rattle.std.specs.declared.result.Result.{Result}
 use Rattle.std.specs.declared.result.Result.the-variants.{Ok, Err}
@@ -46,6 +47,13 @@ share-with s p = record { pages = s .pages ++ p ∷ []; free = λ q. cond (eqb q
 -- page p is free, or not
 abbrev pub share-marked : Share → ℕ → Bool → Share
 share-marked s p b = record { pages = s .pages; free = λ q. cond (eqb q p) b (s .free q) }
+
+-- a page more is refused if there are 64
+abbrev pub share-enrol-answer : Share → Result (Unit {0}) Refusal
+share-enrol-answer s = cond (leb 64 (length (s .pages))) (Err KeeperRefuses) (Ok tt)
+
+abbrev pub share-enrol-after : Share → ℕ → Share
+share-enrol-after s p = cond (isOk (share-enrol-answer s)) (share-with s p) s
 
 -- a page is given back if it is enrolled and not free
 abbrev pub share-give-answer : Share → ℕ → Result (Unit {0}) Refusal

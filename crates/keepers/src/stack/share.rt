@@ -2,14 +2,11 @@
 ghost use mathlib.Core.Path.{_≡_};
 ghost use mathlib.Core.Bool.{cond, false};
 ghost use mathlib.Core.List.{[], _∷_, _++_};
-ghost use Prim.Native.Nat.{_<_};
-ghost use lib.Dec.{leb};
-ghost use lib.ListN.{length};
-ghost use Rattle.std.specs.Of.Vec.{vec-items, vec-len};
+ghost use Rattle.std.specs.Of.Vec.{vec-items};
 ghost use Rattle.std.specs.Results.{isOk};
 ghost use Rattle.std.specs.Vec.{made};
 ghost use Rattle.platform.specs.Lists.{count, member};
-ghost use Rattle.keepers.specs.Shares.{no-share, share-with, share-give-answer, share-give-after, ShareTaken};
+ghost use Rattle.keepers.specs.Shares.{no-share, share-enrol-answer, share-enrol-after, share-give-answer, share-give-after, ShareTaken};
 ghost use Rattle.keepers.specs.Stacks.{stack-share, newest-last, TopOff};
 use super::PageStack;
 use super::ROOM;
@@ -47,13 +44,6 @@ impl PageStack {
         self.pages.clear();
     }
 
-    // Whether there is no room for a page more.
-    pub(super) fn is_full(&self) -> bool
-        ensures answer { λ r. ⌜ r ≡ leb 64 (length (stack-share (now (self .entry)) .pages)) ⌝ }
-    {
-        self.pages.len() >= ROOM
-    }
-
     // How many pages are free.
     pub(super) fn free_count(&self) -> u32
         ensures answer { λ r. ⌜ r ≡ count (stack-share (now (self .entry)) .free) (stack-share (now (self .entry)) .pages) ⌝ }
@@ -62,13 +52,18 @@ impl PageStack {
     }
 
     // One page more, free, that is not there yet.
-    pub(super) fn add(&mut self, page: Page)
-        requires { ⌜ member page (vec-items (now self .pages)) ≡ false ⌝ ∗ ⌜ vec-len (now self .pages) < 64 ⌝ }
-        ensures after { λ _. ⌜ stack-share (now (self .exit)) ≡ share-with (stack-share (now (self .entry))) page ⌝ }
-        ensures stack { λ _. ⌜ newest-last (now (self .exit)) ≡ newest-last (now (self .entry)) ++ page ∷ [] ⌝ }
+    pub(super) fn add(&mut self, page: Page) -> Result<(), Refusal>
+        requires { ⌜ member page (vec-items (now self .pages)) ≡ false ⌝ }
+        ensures answer { λ r. ⌜ r ≡ share-enrol-answer (stack-share (now (self .entry))) ⌝ }
+        ensures after { λ _. ⌜ stack-share (now (self .exit)) ≡ share-enrol-after (stack-share (now (self .entry))) page ⌝ }
+        ensures stack { λ r. ⌜ newest-last (now (self .exit)) ≡ cond (isOk r) (newest-last (now (self .entry)) ++ page ∷ []) (newest-last (now (self .entry))) ⌝ }
     {
+        if self.pages.len() >= ROOM {
+            return Err(Refusal::KeeperRefuses);
+        }
         self.pages.push_reserved(page);
         self.free.push_reserved(page);
+        Ok(())
     }
 
     // Gives the page on top.

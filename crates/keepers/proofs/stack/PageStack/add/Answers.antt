@@ -23,7 +23,7 @@ ghost-self c =
       (
         ap (λ (xs : List ℕ). stacked xs fs′) (c .push-reserved .ensures .items)
             ∙ ap (stacked (vec-items (s .pages) ++ p ∷ [])) (c .push-reserved-2 .ensures .items)
-            ∙ stacked-add (vec-items (s .pages)) (vec-items (s .free)) p (s .neat) (c .pre .0),
+            ∙ stacked-add (vec-items (s .pages)) (vec-items (s .free)) p (s .neat) (c .pre),
         tt,
       ),
     )
@@ -32,6 +32,7 @@ pub returns : need.returns
 returns c =
     let s = c .args .self .now in
     record {
-      after = stack-added (vec-items (s .pages)) (vec-items (s .free)) (vec-items (c .push-reserved .last .self)) (vec-items (c .push-reserved-2 .last .self)) (c .args .page) (c .push-reserved .ensures .items) (c .push-reserved-2 .ensures .items);
+      answer = search needs;
+      after = stack-added (vec-items (s .pages)) (vec-items (s .free)) (vec-items (c .push-reserved .last .self)) (vec-items (c .push-reserved-2 .last .self)) (c .args .page) (search needs) (c .push-reserved .ensures .items) (c .push-reserved-2 .ensures .items);
       stack = c .push-reserved-2 .ensures .items;
     }

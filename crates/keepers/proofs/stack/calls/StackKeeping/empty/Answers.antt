@@ -8,6 +8,7 @@ use Rattle.keepers.proofs.stack.calls.StackKeeping.empty.Needs as need
 
 pub loop-i-again : need.loop-i-again
 loop-i-again c =
-    let xs = vec-items (c .loop-i .self .stacks) in
-    ( plain-set no-share stack-share xs (c .loop-i .i) (c .clear .last .self) (search needs) (c .loop-i .inv .0) (c .clear .ensures .after)
-    , plain-set [] newest-last xs (c .loop-i .i) (c .clear .last .self) (search needs) (c .loop-i .inv .1) (c .clear .ensures .stack) )
+    let xs = vec-items (c .loop-i .self .stacks) in (
+      plain-set no-share stack-share xs (c .loop-i .i) (c .clear .last .self) (search needs) (c .loop-i .inv .0) (c .clear .ensures .after),
+      plain-set [] newest-last xs (c .loop-i .i) (c .clear .last .self) (search needs) (c .loop-i .inv .1) (c .clear .ensures .stack),
+    )

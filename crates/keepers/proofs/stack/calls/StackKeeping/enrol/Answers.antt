@@ -1,15 +1,34 @@
 use borrow.Author.Needs.{needs}
+use mathlib.Core.Path.{sym, _∙_}
+use Prim.Native.Nat.{_-_}
+use mathlib.Core.List.{[], _∷_, _++_}
 use Rattle.std.specs.Of.Vec.{vec-items}
+use Rattle.std.specs.Results.{isOk}
+use Rattle.platform.specs.Lists.{member}
 use Rattle.keepers.specs.Stacks.{stack-share, newest-last}
-use Rattle.keepers.proofs.Shares.{kept-enrolled, kept-unenrolled}
-use Rattle.keepers.proofs.Stacks.{stacks-pushed}
+use Rattle.keepers.proofs.Shares.{any-not, kept-held, kept-enrol-answer, kept-enrolled}
+use Rattle.keepers.proofs.Values.{guest-if}
 use Rattle.keepers.proofs.stack.calls.StackKeeping.enrol.Needs as need
 
 pub returns-then-is-held : need.returns-then-is-held
-returns-then-is-held c = ?
+returns-then-is-held c =
+    let xs = vec-items (c .args .self .now .stacks) in
+    let t = kept-held stack-share xs (search needs) (c .args .guest) (c .args .page) (search needs) (sym (c .if-is-held .ensures tt .answer)) in
+    record { answer = t .0; after = t .1; stack = search needs }
 
 pub add-requires : need.add-requires
-add-requires c κs = ?
+add-requires c κs =
+    let xs = vec-items (c .args .self .now .stacks) in
+    any-not (λ s. member (c .args .page) (stack-share s .pages)) xs (c .args .guest - 1) (c .index-mut .result .now) (sym (c .if-is-held .ensures tt .answer)) (search needs) (search needs)
 
 pub returns : need.returns
-returns c = ?
+returns c =
+    let xs = vec-items (c .args .self .now .stacks) in
+    let x = c .index-mut .result .now in
+    let y = c .add .last .self in
+    let n = sym (c .if-is-held .ensures tt .answer) in
+    record {
+      answer = c .add .ensures .answer ∙ kept-enrol-answer stack-share xs (search needs) (c .args .guest) (search needs) x (search needs) (c .args .page) n;
+      after = kept-enrolled stack-share xs (search needs) (c .args .guest) (search needs) x (search needs) y (c .args .page) n (c .add .ensures .after);
+      stack = guest-if [] newest-last xs (c .args .guest) x y (λ s. s ++ c .args .page ∷ []) (isOk (c .add .result)) (search needs) (search needs) (search needs) (c .add .ensures .stack);
+    }

@@ -1,9 +1,11 @@
 use borrow.Author.Needs.{needs}
 use mathlib.Core.Path.{_∙_}
+use mathlib.Core.List.{[], _∷_, _++_}
 use Rattle.std.specs.Of.Vec.{vec-items}
+use Rattle.std.specs.Results.{isOk}
 use Rattle.keepers.specs.Stacks.{stack-share, newest-last}
 use Rattle.keepers.proofs.Shares.{kept-give-answer, kept-given}
-use Rattle.keepers.proofs.Stacks.{stacks-pushed}
+use Rattle.keepers.proofs.Values.{guest-if}
 use Rattle.keepers.proofs.stack.calls.StackKeeping.give.Needs as need
 
 pub returns : need.returns
@@ -12,5 +14,5 @@ returns c =
     record {
       answer = c .give .ensures .answer ∙ kept-give-answer stack-share xs (search needs) (c .args .guest) (search needs) (c .index-mut .result .now) (search needs) (c .args .page);
       after = kept-given stack-share xs (search needs) (c .args .guest) (search needs) (c .index-mut .result .now) (search needs) (c .give .last .self) (c .args .page) (c .give .ensures .after);
-      stack = stacks-pushed newest-last xs (search needs) (c .args .guest) (search needs) (c .index-mut .result .now) (search needs) (c .give .last .self) (c .args .page) (c .give .result) (c .give .ensures .stack);
+      stack = guest-if [] newest-last xs (c .args .guest) (c .index-mut .result .now) (c .give .last .self) (λ s. s ++ c .args .page ∷ []) (isOk (c .give .result)) (search needs) (search needs) (search needs) (c .give .ensures .stack);
     }

@@ -1,0 +1,4 @@
+pub mod Cases
+pub mod Landing
+pub mod Leading
+pub mod Sights
