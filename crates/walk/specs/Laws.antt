@@ -35,7 +35,7 @@ MappingIsAllowed m b w g x (Err e) = Unit {0}
 pub record LookAlike (n : ℕ) (m m′ : Mem) (r r′ : ℕ → Right) : Type 0 where
   pub present : (p : ℕ) → p < n → m .has p ≡ m′ .has p
   pub rights : (p : ℕ) → p < n → r p ≡ r′ p
-  pub words : (p k : ℕ) → p < n → 1 ≤ rank (r p) → k < 1024 → m .word p k ≡ m′ .word p k
+  pub words : (p k : ℕ) → p < n → m .has p ≡ true → 1 ≤ rank (r p) → k < 1024 → m .word p k ≡ m′ .word p k
 
 abbrev pub WalkReadsOnlyWhatIsReadable : Type 0
 WalkReadsOnlyWhatIsReadable =
