@@ -4,3 +4,4 @@ pub mod Sets
 pub mod Shares
 pub mod Stacks
 pub mod Values
+pub mod Lawful

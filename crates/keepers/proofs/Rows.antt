@@ -1,23 +1,17 @@
 -- One guest's marks: finding one, changing one, adding one, and counting the free ones.
 use borrow.Author.Needs.{needs}
-use native.Mathlib.Omega.{arith}
 use mathlib.Core.Path.{_≡_, refl, sym, ap, _∙_}
-use mathlib.Core.Bool.{Bool, true, false, cond, not, _&&_, _||_}
+use mathlib.Core.Bool.{Bool, true, false, cond, _&&_, _||_}
 use mathlib.Core.List.{List, [], _∷_, _++_}
 use Prim.Native.Nat.{ℕ, zero, suc, _+_, _<_, _≤_}
 use lib.Dec.{eqb}
 use lib.ListN.{length, getD, set, drop}
 use Rattle.std.proofs.shelf.Lists.{drop-more, drop-all}
-use Rattle.std.specs.declared.option.Option.{Option}
 use Rattle.std.specs.declared.option.Option.the-variants.{None, Some}
-use Rattle.std.specs.declared.result.Result.the-variants.{Ok, Err}
-use Rattle.platform.specs.declared.refusal.Refusal.the-variants.{KeeperRefuses}
 use Rattle.platform.specs.Lists.{any, member, count}
-use Rattle.platform.proofs.Lists.{any-push}
 use Rattle.keepers.specs.declared.mark.Mark.{Mark}
 use Rattle.keepers.specs.Rows.{pages-of, is-free, place-of, found-at, first-free, free-from, round-place, page-at, set-free}
 use Rattle.keepers.specs.Sets.{distinct}
-use Rattle.keepers.proofs.Sets.{distinct-push}
 
 -- the rest of a row from its i-th mark on
 pub row-step : (ms : List Mark) (i : ℕ) (x : Mark) → i < length ms → x ≡ getD ms i x → drop i ms ≡ x ∷ drop (i + 1) ms

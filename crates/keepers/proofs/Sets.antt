@@ -1,17 +1,17 @@
 -- Lists of page numbers as sets: one number more, one number less, and how many of a list stand in another.
 use borrow.Author.Needs.{needs}
 use mathlib.Core.Path.{_≡_, refl, sym, ap, _∙_}
-use mathlib.Core.Bool.{Bool, true, false, cond, not, _&&_, _||_}
+use mathlib.Core.Bool.{Bool, true, false, not, _&&_, _||_}
 use mathlib.Core.List.{List, [], _∷_, _++_}
 use Prim.Native.Nat.{ℕ, _+_, _≤_, _<_}
 use lib.Dec.{eqb}
 use lib.ListN.{length}
 use Rattle.std.proofs.shelf.Lists.{append-nil}
-use Rattle.std.proofs.shelf.Tests.{and-parts, and-from}
+use Rattle.std.proofs.shelf.Tests.{and-parts}
 use Rattle.std.specs.Vec.{listOf}
 use Rattle.std.specs.declared.option.Option.{Option}
 use Rattle.std.specs.declared.option.Option.the-variants.{None, Some}
-use Rattle.platform.specs.Lists.{any, member, count}
+use Rattle.platform.specs.Lists.{member, count}
 use Rattle.platform.proofs.Lists.{any-push}
 use Rattle.keepers.specs.Sets.{distinct, all-in, stacked}
 
@@ -35,12 +35,12 @@ distinct-front (x ∷ xs) y d =
     let e = member-push xs y x in
     (search needs, search needs)
 
-pub all-in-push : (xs : List ℕ) (y : ℕ) (ps : List ℕ) → all-in (xs ++ y ∷ []) ps ≡ (all-in xs ps && member y ps)
+all-in-push : (xs : List ℕ) (y : ℕ) (ps : List ℕ) → all-in (xs ++ y ∷ []) ps ≡ (all-in xs ps && member y ps)
 all-in-push [] y ps = search needs
 all-in-push (x ∷ xs) y ps = let h = all-in-push xs y ps in search needs
 
 -- a longer list has all that a shorter one has
-pub all-in-more : (xs ps : List ℕ) (y : ℕ) → all-in xs ps ≡ true → all-in xs (ps ++ y ∷ []) ≡ true
+all-in-more : (xs ps : List ℕ) (y : ℕ) → all-in xs ps ≡ true → all-in xs (ps ++ y ∷ []) ≡ true
 all-in-more [] ps y a = refl
 all-in-more (x ∷ xs) ps y a = let h = all-in-more xs ps y in let e = member-push ps y x in search needs
 
@@ -72,7 +72,7 @@ count-more x fs [] m = refl
 count-more x fs (p ∷ ps) m = let h = count-more x fs ps m in search needs
 
 -- a set within another is counted there whole
-pub count-all : (fs ps : List ℕ) → distinct fs ≡ true → all-in fs ps ≡ true → distinct ps ≡ true → count (λ p. member p fs) ps ≡ length fs
+count-all : (fs ps : List ℕ) → distinct fs ≡ true → all-in fs ps ≡ true → distinct ps ≡ true → count (λ p. member p fs) ps ≡ length fs
 count-all [] ps f a d = count-none ps
 count-all (x ∷ fs) ps f a d =
     let h = count-all fs ps in
@@ -97,7 +97,7 @@ pub record Stacked (ps fs : List ℕ) : Type 0 where
 pub stacked-parts : (ps fs : List ℕ) → stacked ps fs ≡ true → Stacked ps fs
 stacked-parts ps fs s = record { pages = search needs; free = search needs; within = search needs }
 
-pub stacked-from : (ps fs : List ℕ) → Stacked ps fs → stacked ps fs ≡ true
+stacked-from : (ps fs : List ℕ) → Stacked ps fs → stacked ps fs ≡ true
 stacked-from ps fs s = search needs
 
 pub stacked-count : (ps fs : List ℕ) → stacked ps fs ≡ true → count (λ p. member p fs) ps ≡ length fs
@@ -107,7 +107,7 @@ stacked-count ps fs s = let t = stacked-parts ps fs s in count-all fs ps (t .fre
 pub stacked-most : (ps fs : List ℕ) → stacked ps fs ≡ true → length fs ≤ length ps
 stacked-most ps fs s = let c = stacked-count ps fs s in let m = count-most (λ p. member p fs) ps in search needs
 
-pub stacked-none : (ps fs : List ℕ) (p : ℕ) → stacked ps fs ≡ true → member p ps ≡ false → member p fs ≡ false
+stacked-none : (ps fs : List ℕ) (p : ℕ) → stacked ps fs ≡ true → member p ps ≡ false → member p fs ≡ false
 stacked-none ps fs p s m = let t = stacked-parts ps fs s in let i = in-all fs ps p (t .within) in search needs
 
 -- a new page, free
@@ -121,15 +121,15 @@ stacked-add ps fs p s m =
     (record { pages = distinct-push ps p (t .pages) m; free = distinct-push fs p (t .free) (stacked-none ps fs p s m); within = search needs })
 
 -- a page freed
-pub stacked-give : (ps fs : List ℕ) (p : ℕ) → stacked ps fs ≡ true → member p ps ≡ true → member p fs ≡ false → stacked ps (fs ++ p ∷ []) ≡ true
+pub stacked-give : (ps fs : List ℕ) (p : ℕ) → stacked ps fs ≡ true → true ≡ member p ps → false ≡ member p fs → stacked ps (fs ++ p ∷ []) ≡ true
 stacked-give ps fs p s m n =
     let t = stacked-parts ps fs s in
     let w = t .within in
     let i = all-in-push fs p ps in
-    stacked-from ps (fs ++ p ∷ []) (record { pages = t .pages; free = distinct-push fs p (t .free) n; within = search needs })
+    stacked-from ps (fs ++ p ∷ []) (record { pages = t .pages; free = distinct-push fs p (t .free) (sym n); within = search needs })
 
 -- the last free page taken
-pub stacked-take : (ps fs : List ℕ) (p : ℕ) → stacked ps (fs ++ p ∷ []) ≡ true → stacked ps fs ≡ true
+stacked-take : (ps fs : List ℕ) (p : ℕ) → stacked ps (fs ++ p ∷ []) ≡ true → stacked ps fs ≡ true
 stacked-take ps fs p s =
     let t = stacked-parts ps (fs ++ p ∷ []) s in
     let w = t .within in

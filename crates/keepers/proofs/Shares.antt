@@ -2,12 +2,11 @@
 use borrow.Author.Needs.{needs}
 use native.Mathlib.Omega.{arith}
 use mathlib.Core.Path.{_≡_, refl, sym, ap, _∙_, fun-ext}
-use mathlib.Core.Bool.{Bool, true, false, cond, not, _&&_, _||_}
-use mathlib.Core.List.{List, [], _∷_, _++_}
+use mathlib.Core.Bool.{Bool, true, false, cond, _||_}
+use mathlib.Core.List.{List, [], _∷_}
 use mathlib.Core.Logic.{⊎-elim}
-use Prim.Native.Nat.{ℕ, zero, suc, _+_, _-_, _<_, _≤_}
-use native.Mathlib.Numerals.{add-one}
-use lib.Dec.{eqb, leb}
+use Prim.Native.Nat.{ℕ, zero, suc, _+_, _-_, _<_}
+use lib.Dec.{leb}
 use lib.ListN.{length, getD, set}
 use Rattle.std.proofs.shelf.Tests.{cond-true, cond-false, cases-bool, or-left, or-parts}
 use Rattle.std.specs.Results.{isOk}
@@ -16,7 +15,7 @@ use Rattle.std.specs.declared.result.Result.the-variants.{Ok, Err}
 use Rattle.platform.specs.declared.refusal.Refusal.{Refusal}
 use Rattle.platform.specs.declared.refusal.Refusal.the-variants.{GuestOutOfRange, KeeperRefuses}
 use Rattle.platform.specs.Guests.{is-guest}
-use Rattle.platform.specs.Keepers.{Keep, emptied, is-enrolled, with-page, marked, enrol-answer, enrol-after, give-answer, give-after, free-answer, free-count, take-refusal, Taken}
+use Rattle.platform.specs.Keepers.{Keep, is-enrolled, with-page, marked, enrol-answer, enrol-after, give-answer, give-after, free-count, Taken}
 use Rattle.platform.specs.Lists.{any, any-below, member, count}
 use Rattle.keepers.specs.Shares.{Share, no-share, value-at, by-guest, changed, keep-of, share-with, share-marked, share-enrol-answer, share-enrol-after, share-give-answer, share-give-after, ShareTaken}
 use Rattle.keepers.proofs.Sets.{count-some}
@@ -26,7 +25,7 @@ use Rattle.keepers.proofs.Values.{guest-read, guest-set, changed-same}
 pub same-share : (s t : Share) → s .pages ≡ t .pages → ((p : ℕ) → s .free p ≡ t .free p) → s ≡ t
 same-share s t a b i = record { pages = a i; free = fun-ext b i }
 
-pub same-keep : (k l : Keep) → ((g : ℕ) → k .pages g ≡ l .pages g) → ((g p : ℕ) → k .free g p ≡ l .free g p) → k ≡ l
+same-keep : (k l : Keep) → ((g : ℕ) → k .pages g ≡ l .pages g) → ((g p : ℕ) → k .free g p ≡ l .free g p) → k ≡ l
 same-keep k l a b i = record { pages = fun-ext a i; free = fun-ext (λ g. fun-ext (b g)) i }
 
 -- some number below n passes, or some item does
@@ -68,7 +67,7 @@ any-not t (y ∷ xs) (suc i) x a l e = any-not t xs i x (or-parts (t y) (any t x
 
 -- a keeper of eight parts, of which x is guest g's
 module _ {A : Type 0} (f : A → Share) (xs : List A) (l : length xs ≡ 8) where
-  pub enrolled-any : (p : ℕ) → is-enrolled (keep-of (by-guest no-share f xs)) p ≡ any (λ x. member p (f x .pages)) xs
+  enrolled-any : (p : ℕ) → is-enrolled (keep-of (by-guest no-share f xs)) p ≡ any (λ x. member p (f x .pages)) xs
   enrolled-any p =
       below-same (λ i. member p (by-guest no-share f xs (i + 1) .pages)) (λ i. member p (value-at no-share f xs i .pages)) 8 (λ i h. search needs)
       ∙ ap (any-below (λ i. member p (value-at no-share f xs i .pages))) (sym l)
@@ -91,16 +90,16 @@ module _ {A : Type 0} (f : A → Share) (xs : List A) (l : length xs ≡ 8) wher
     kept : (y : A) (t : Share) → f y ≡ t → keep-of (by-guest no-share f (set xs (g - 1) y)) ≡ keep-of (changed (by-guest no-share f xs) g t)
     kept y t a = ap keep-of (guest-set no-share f xs g y o l) ∙ ap (λ (s : Share). keep-of (changed (by-guest no-share f xs) g s)) a
 
-    pub kept-same : (y : A) → f y ≡ f x → keep-of (by-guest no-share f (set xs (g - 1) y)) ≡ keep-of (by-guest no-share f xs)
+    kept-same : (y : A) → f y ≡ f x → keep-of (by-guest no-share f (set xs (g - 1) y)) ≡ keep-of (by-guest no-share f xs)
     kept-same y a = kept y (f x) a ∙ ap keep-of (changed-same (by-guest no-share f xs) g (f x) (sym share-is))
 
-    pub kept-with : (y : A) (p : ℕ) → f y ≡ share-with (f x) p
+    kept-with : (y : A) (p : ℕ) → f y ≡ share-with (f x) p
         → keep-of (by-guest no-share f (set xs (g - 1) y)) ≡ with-page (keep-of (by-guest no-share f xs)) g p
     kept-with y p a =
         kept y (share-with (by-guest no-share f xs g) p) (a ∙ ap (λ (s : Share). share-with s p) (sym share-is))
         ∙ keep-with (by-guest no-share f xs) g p
 
-    pub kept-marked : (y : A) (p : ℕ) (b : Bool) → f y ≡ share-marked (f x) p b
+    kept-marked : (y : A) (p : ℕ) (b : Bool) → f y ≡ share-marked (f x) p b
         → keep-of (by-guest no-share f (set xs (g - 1) y)) ≡ marked (keep-of (by-guest no-share f xs)) g p b
     kept-marked y p b a =
         kept y (share-marked (by-guest no-share f xs g) p b) (a ∙ ap (λ (s : Share). share-marked s p b) (sym share-is))

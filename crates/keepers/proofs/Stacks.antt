@@ -1,10 +1,9 @@
 -- One guest's stack: what it means after each call.
 use borrow.Author.Needs.{needs}
 use mathlib.Core.Path.{_≡_, refl, sym, ap, _∙_, fun-ext}
-use mathlib.Core.Bool.{Bool, true, false, cond, not, _&&_, _||_}
+use mathlib.Core.Bool.{true, false}
 use mathlib.Core.List.{List, [], _∷_, _++_}
 use Prim.Native.Nat.{ℕ, _-_, _<_}
-use lib.Dec.{eqb}
 use lib.ListN.{length, getD, set}
 use Rattle.std.proofs.shelf.Lists.{append-nil}
 use Rattle.std.proofs.shelf.Tests.{cond-true}
@@ -14,9 +13,9 @@ use Rattle.std.specs.declared.result.Result.the-variants.{Ok, Err}
 use Rattle.platform.specs.declared.refusal.Refusal.{Refusal}
 use Rattle.platform.specs.declared.refusal.Refusal.the-variants.{KeeperRefuses}
 use Rattle.platform.specs.Guests.{is-guest}
-use Rattle.platform.specs.Lists.{member, count}
+use Rattle.platform.specs.Lists.{member}
 use Rattle.keepers.specs.Sets.{distinct, stacked}
-use Rattle.keepers.specs.Shares.{Share, by-guest, changed, share-with, share-marked, share-enrol-answer, share-enrol-after, share-give-answer, share-give-after, ShareTaken}
+use Rattle.keepers.specs.Shares.{Share, by-guest, share-with, share-marked, share-enrol-answer, share-enrol-after, share-give-answer, share-give-after, ShareTaken}
 use Rattle.keepers.specs.Stacks.{TopOff, TopTaken}
 use Rattle.keepers.proofs.Sets.{member-push, distinct-front, in-all, stacked-parts, stacked-count}
 use Rattle.keepers.proofs.Shares.{same-share}
@@ -34,7 +33,7 @@ stack-added ps fs ps′ fs′ p l a b =
     ∙ sym (cond-true (isOk (share-enrol-answer (sh ps fs))) _ _ t)
 
 -- a page freed
-pub stack-given : (ps fs fs′ : List ℕ) (p : ℕ) → member p ps ≡ true → member p fs ≡ false → fs′ ≡ fs ++ p ∷ []
+pub stack-given : (ps fs fs′ : List ℕ) (p : ℕ) → true ≡ member p ps → false ≡ member p fs → fs′ ≡ fs ++ p ∷ []
     → (Ok tt ≡ share-give-answer (record { pages = ps; free = λ q. member q fs }) p)
     × (_≡_ {A = Share} (record { pages = ps; free = λ q. member q fs′ }) (share-give-after (record { pages = ps; free = λ q. member q fs }) p))
 stack-given ps fs fs′ p m n b =

@@ -1,3 +1,4 @@
+pub mod Laws
 pub mod Rings
 pub mod Rows
 pub mod Sets

@@ -13,9 +13,6 @@ mod share;
 
 pub use calls::MarksKeeping;
 
-// A guest has at most as many pages.
-const ROOM: usize = 64;
-
 // One guest's marks in the order in which the pages were enrolled, and the place after the one taken last, 0 before any was.
 // The table of marks is made once, at its full size.
 #[derive(Drop)]

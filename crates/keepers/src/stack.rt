@@ -11,9 +11,6 @@ mod share;
 
 pub use calls::StackKeeping;
 
-// A guest has at most as many pages.
-const ROOM: usize = 64;
-
 // One guest's pages in the order in which they were enrolled, and its free ones as a stack.
 // Both tables are made once, at their full size.
 #[derive(Drop)]

@@ -8,6 +8,8 @@ use native.Mathlib.Decide.{ℕ-discrete}
 use borrow.Author.Tests.{eqb-true, eqb-false, eq-eqb, ne-eqb}
 use Rattle.std.specs.declared.option.Option.{Option}
 use Rattle.std.specs.declared.option.Option.the-variants.{None, Some}
+use Rattle.std.specs.declared.result.Result.{Result}
+use Rattle.std.specs.declared.result.Result.the-variants.{Ok, Err}
 use Rattle.model.proofs.Plain.{at, put}
 use Rattle.model.proofs.Sound.{Role, idle, is-root, is-leaf}
 
@@ -75,3 +77,7 @@ by-option P (Some a) f g = g a refl
 pub by-test : (P : Bool → Type 0) (b : Bool) → (b ≡ true → P true) → (b ≡ false → P false) → P b
 by-test P true f g = f refl
 by-test P false f g = g refl
+
+pub by-result : {A B : Type 0} (P : Result A B → Type 0) (r : Result A B) → ((x : A) → r ≡ Ok x → P (Ok x)) → ((e : B) → r ≡ Err e → P (Err e)) → P r
+by-result P (Ok x) f g = f x refl
+by-result P (Err e) f g = g e refl

@@ -6,3 +6,13 @@ mod Keeps
 mod Counts
 mod Filling
 mod Keeping
+mod View
+mod Alone
+mod Own
+mod Others
+mod Cases
+mod Link
+mod Words
+mod Progress
+mod Drops
+mod Apart

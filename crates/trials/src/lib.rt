@@ -1,8 +1,11 @@
-// Worked examples of the core, as tests with tables of cases.
+// Worked examples of the core: a theorem over a list, and tests with tables of cases.
 #[cfg(test)]
 mod books;
 #[cfg(test)]
 mod calls;
+#[cfg(test)]
+mod descriptors;
+pub mod examples;
 #[cfg(test)]
 mod limits;
 #[cfg(test)]
@@ -13,3 +16,5 @@ mod numbers;
 mod program;
 #[cfg(test)]
 mod records;
+#[cfg(test)]
+mod walks;

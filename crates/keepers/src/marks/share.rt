@@ -9,7 +9,7 @@ ghost use Rattle.keepers.specs.Rings.{ring-of};
 ghost use Rattle.keepers.specs.Rows.{pages-of, no-ring, ring-share, ring-with, ring-freed, round-answer, round-after};
 ghost use Rattle.keepers.specs.Shares.{share-enrol-answer, share-give-answer};
 use super::PageMarks;
-use super::ROOM;
+use crate::ROOM;
 use crate::mark::Mark;
 use crate::search::PageHolder;
 use platform::refusal::Refusal;

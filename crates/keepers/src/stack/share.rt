@@ -9,7 +9,7 @@ ghost use Rattle.platform.specs.Lists.{count, member};
 ghost use Rattle.keepers.specs.Shares.{no-share, share-enrol-answer, share-enrol-after, share-give-answer, share-give-after, ShareTaken};
 ghost use Rattle.keepers.specs.Stacks.{stack-share, newest-last, TopOff};
 use super::PageStack;
-use super::ROOM;
+use crate::ROOM;
 use crate::search::PageHolder;
 use crate::search::stands;
 use platform::refusal::Refusal;

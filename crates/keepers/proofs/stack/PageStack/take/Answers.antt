@@ -1,10 +1,7 @@
 use borrow.Author.Needs.{needs}
-use mathlib.Core.Path.{_≡_, sym, ap, _∙_}
-use mathlib.Core.List.{List, [], _∷_, _++_}
-use Prim.Native.Nat.{ℕ}
+use mathlib.Core.Path.{sym, _∙_}
 use Rattle.std.proofs.shelf.Lists.{append-nil}
 use Rattle.std.specs.Of.Vec.{vec-items}
-use Rattle.keepers.specs.Sets.{stacked}
 use Rattle.keepers.proofs.Sets.{stacked-pop}
 use Rattle.keepers.proofs.Stacks.{stack-taken, stack-untaken}
 use Rattle.keepers.proofs.stack.PageStack.take.Needs as need

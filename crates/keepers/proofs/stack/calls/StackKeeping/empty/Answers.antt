@@ -3,7 +3,7 @@ use mathlib.Core.List.{[]}
 use Rattle.std.specs.Of.Vec.{vec-items}
 use Rattle.keepers.specs.Shares.{no-share}
 use Rattle.keepers.specs.Stacks.{stack-share, newest-last}
-use Rattle.keepers.proofs.Values.{plain-set, plain-all}
+use Rattle.keepers.proofs.Values.{plain-set}
 use Rattle.keepers.proofs.stack.calls.StackKeeping.empty.Needs as need
 
 pub loop-i-again : need.loop-i-again
