@@ -16,3 +16,5 @@ mod Words
 mod Progress
 mod Drops
 mod Apart
+mod Abstract
+mod Dropping

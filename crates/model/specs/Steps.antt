@@ -3,7 +3,7 @@ use mathlib.Core.Path.{_≡_}
 use mathlib.Core.Bool.{Bool, true, false, cond}
 use mathlib.Core.List.{List, [], _∷_}
 use Prim.Native.Nat.{ℕ, _+_, _/_, _%_}
-use lib.Dec.{eqb}
+use lib.Dec.{eqb, ltb}
 use Rattle.std.specs.declared.option.Option.{Option}
 use Rattle.std.specs.declared.option.Option.the-variants.{None, Some}
 use Rattle.std.specs.declared.result.Result.{Result}
@@ -112,6 +112,10 @@ abbrev pub wipe-all : Mem → List Space → ℕ → Mem
 wipe-all m [] va = m
 wipe-all m (x ∷ xs) va = wipe-all (wipe-one m (x .root) va) xs va
 
+-- an address that no guest has is in no leaf
+abbrev pub wiped : Board → ℕ → ℕ → Board
+wiped b g va = cond (ltb va 0x40000000) (with-memory b (wipe-all (b .memory) (b .guest g .spaces) va)) b
+
 -- a call of the guest that runs
 abbrev pub by-guest : Board → Option ℕ → (ℕ → Turn) → Turn
 by-guest b None f = answers b (Refused NoGuestRuns)
@@ -126,7 +130,7 @@ step b (Switch base) q = guest-call b (λ g. answers (with-guest b g (with-base 
 step b PagingOn q = guest-call b (λ g. answers (with-guest b g (with-paging (b .guest g) true)) Done)
 step b PagingOff q = guest-call b (λ g. answers (with-guest b g (with-paging (b .guest g) false)) Done)
 step b Flush q = guest-call b (λ g. answers (dropped b g) Done)
-step b (FlushPage va) q = guest-call b (λ g. answers (with-memory b (wipe-all (b .memory) (b .guest g .spaces) va)) Done)
+step b (FlushPage va) q = guest-call b (λ g. answers (wiped b g va) Done)
 step b (Fault va x) q = guest-call b (λ g. fault b g va x q)
 step b (Load va) q = guest-call b (λ g. answers b (load b g va))
 step b (Store va word) q = guest-call b (λ g. store b g va word)
