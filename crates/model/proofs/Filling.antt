@@ -22,11 +22,11 @@ Good w s = (role : ℕ → Role) × Sound w s role
 abbrev pub HasRoot : State → ℕ → Type 0
 HasRoot s g = (r : ℕ) × (present s g ≡ Some r)
 
-present-new : (s : State) (g p : ℕ) → present (new-root s g p) g ≡ Some p
+pub present-new : (s : State) (g p : ℕ) → present (new-root s g p) g ≡ Some p
 unfolding new-root
 present-new s g p = simp (eq-eqb g g refl, eq-eqb (key-of (s .guest g .regs)) (key-of (s .guest g .regs)) refl)
 
-place-new : (s : State) (g i p : ℕ) → place (new-leaf s g (or-zero (present s g)) i p) g i ≡ leaf-mark p
+pub place-new : (s : State) (g i p : ℕ) → place (new-leaf s g (or-zero (present s g)) i p) g i ≡ leaf-mark p
 unfolding new-leaf
 place-new s g i p = put-same (s .word) (or-zero (present s g)) i (leaf-mark p)
 

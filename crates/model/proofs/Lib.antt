@@ -18,3 +18,5 @@ mod Drops
 mod Apart
 mod Abstract
 mod Dropping
+mod Taking
+mod Faulting
