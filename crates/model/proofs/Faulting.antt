@@ -185,28 +185,32 @@ do-leafed b g root i p F l e n M =
     let c = not-refused b g (F .guest) (n (sym q ∙ eqb-true (word-at (b .memory) root i) 0 d)) in
     let m = M d c in
     let z : new-leaf (plain b) g root i p ≡ cond (eqb (place (plain b) g i) 0) (new-leaf (plain b) g (or-zero (present (plain b) g)) i p) (plain b) =
-    ap (λ o. new-leaf (plain b) g (or-zero o) i p) (sym e) ∙ sym (ap (λ y. cond y (new-leaf (plain b) g (or-zero (present (plain b) g)) i p) (plain b)) (ap (λ x. eqb x 0) (sym q) ∙ d)) in
-    (record {
-      after = _;
-      found = p;
-      is = ap (leaf-taken b g root i p) c;
-      same = plain-leaf b g root i p (there b g root i (F .lawful) (root-enrolled b g root F e) l) (small b g p (F .lawful) (m .0)) ∙ z;
-      kept = kept-leaf b g root i p;
-      leaf = ap (λ (x : State). page-in (place x g i)) (sym z) ∙ ap (λ o. page-in (place (new-leaf (plain b) g (or-zero o) i p) g i)) (sym e) ∙ ap page-in (place-new (plain b) g i p) ∙ page-leaf p;
-    }, λ y. m .1))
+    ap (λ o. new-leaf (plain b) g (or-zero o) i p) (sym e) ∙ sym (ap (λ y. cond y (new-leaf (plain b) g (or-zero (present (plain b) g)) i p) (plain b)) (ap (λ x. eqb x 0) (sym q) ∙ d)) in (
+      record {
+        after = _;
+        found = p;
+        is = ap (leaf-taken b g root i p) c;
+        same = plain-leaf b g root i p (there b g root i (F .lawful) (root-enrolled b g root F e) l) (small b g p (F .lawful) (m .0)) ∙ z;
+        kept = kept-leaf b g root i p;
+        leaf = ap (λ (x : State). page-in (place x g i)) (sym z) ∙ ap (λ o. page-in (place (new-leaf (plain b) g (or-zero o) i p) g i)) (sym e) ∙ ap page-in (place-new (plain b) g i p) ∙ page-leaf p;
+      },
+      λ y. m .1,
+    ))
     (λ t d.
     let v : ¬ (word-at (b .memory) root i ≡ 0) = eqb-false (word-at (b .memory) root i) 0 d in
     let r = F .good .1 .root-in g _ root e in
     let en = F .good .1 .used-leaf g root i _ (F .good .1 .leaf-in g _ root i r v) .0 in
-    let z : plain b ≡ cond (eqb (place (plain b) g i) 0) (new-leaf (plain b) g (or-zero (present (plain b) g)) i p) (plain b) = sym (ap (λ y. cond y (new-leaf (plain b) g (or-zero (present (plain b) g)) i p) (plain b)) (ap (λ x. eqb x 0) (sym q) ∙ d)) in
-    (record {
-      after = b;
-      found = table-page (word-at (b .memory) root i);
-      is = refl;
-      same = z;
-      kept = kept-refl b;
-      leaf = ap (λ (x : State). page-in (place x g i)) (sym z) ∙ ap page-in (sym q) ∙ sym (page-same (word-at (b .memory) root i) (F .good .1 .root-form g _ root i r v) (small b g _ (F .lawful) en));
-    }, λ y. clash (ap (λ x. eqb x 0) q ∙ y) d))
+    let z : plain b ≡ cond (eqb (place (plain b) g i) 0) (new-leaf (plain b) g (or-zero (present (plain b) g)) i p) (plain b) = sym (ap (λ y. cond y (new-leaf (plain b) g (or-zero (present (plain b) g)) i p) (plain b)) (ap (λ x. eqb x 0) (sym q) ∙ d)) in (
+      record {
+        after = b;
+        found = table-page (word-at (b .memory) root i);
+        is = refl;
+        same = z;
+        kept = kept-refl b;
+        leaf = ap (λ (x : State). page-in (place x g i)) (sym z) ∙ ap page-in (sym q) ∙ sym (page-same (word-at (b .memory) root i) (F .good .1 .root-form g _ root i r v) (small b g _ (F .lawful) en));
+      },
+      λ y. clash (ap (λ x. eqb x 0) q ∙ y) d,
+    ))
     refl
 
 -- the steps of a fill, at place i of the root and place j of the leaf

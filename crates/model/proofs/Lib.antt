@@ -20,3 +20,5 @@ mod Abstract
 mod Dropping
 mod Taking
 mod Faulting
+mod Reading
+mod Wiping

@@ -7,6 +7,8 @@ mod calls;
 mod descriptors;
 pub mod examples;
 #[cfg(test)]
+mod keepers;
+#[cfg(test)]
 mod limits;
 #[cfg(test)]
 mod memories;
