@@ -214,37 +214,37 @@ do-leafed b g root i p F l e n M =
     refl
 
 -- the steps of a fill, at place i of the root and place j of the leaf
-abbrev chain : Board → ℕ → ℕ → ℕ → ℕ → Picks → Reached (Unit {0})
+abbrev pub chain : Board → ℕ → ℕ → ℕ → ℕ → Picks → Reached (Unit {0})
 chain b g i j word q =
     and-then (fills.rooted b g (q .first)) (λ c first.
     and-then (fills.roomy c g first i (q .afresh)) (λ d root.
     and-then (fills.leafed d g root i (q .leaf)) (λ e leaf.
     reached (board.with-memory e (written (e .memory) leaf j word)) tt)))
 
-abbrev FairChain : Board → ℕ → ℕ → Picks → Type 0
+abbrev pub FairChain : Board → ℕ → ℕ → Picks → Type 0
 FairChain b g i q =
     FairRoot b g (q .first) × Where (fills.rooted b g (q .first)) (λ c first.
     FairRoom c g first i (q .afresh) × Where (fills.roomy c g first i (q .afresh)) (λ d root.
     FairLeaf d g root i (q .leaf)))
 
-abbrev plain-chain : World → Picks → State → ℕ → ℕ → ℕ → ℕ → State
+abbrev pub plain-chain : World → Picks → State → ℕ → ℕ → ℕ → ℕ → State
 plain-chain w q s g i j v =
     let t = leafed (roomy w (rooted w s g (q .first)) g i (q .afresh)) g i (q .leaf) in
     write t (page-in (place t g i)) j v
 
-record FairPlain (w : World) (q : Picks) (s : State) (g i : ℕ) : Type 0 where
-  first-free : present s g ≡ None → cleared w s g (crowded w s g) .free g (q .first) ≡ true
-  afresh-free : (eqb (place (rooted w s g (q .first)) g i) 0 && eqb (free-count w (rooted w s g (q .first)) g) 0) ≡ true → drop w (rooted w s g (q .first)) g .free g (q .afresh) ≡ true
-  leaf-free : eqb (place (roomy w (rooted w s g (q .first)) g i (q .afresh)) g i) 0 ≡ true → roomy w (rooted w s g (q .first)) g i (q .afresh) .free g (q .leaf) ≡ true
+pub record FairPlain (w : World) (q : Picks) (s : State) (g i : ℕ) : Type 0 where
+  pub first-free : present s g ≡ None → cleared w s g (crowded w s g) .free g (q .first) ≡ true
+  pub afresh-free : (eqb (place (rooted w s g (q .first)) g i) 0 && eqb (free-count w (rooted w s g (q .first)) g) 0) ≡ true → drop w (rooted w s g (q .first)) g .free g (q .afresh) ≡ true
+  pub leaf-free : eqb (place (roomy w (rooted w s g (q .first)) g i (q .afresh)) g i) 0 ≡ true → roomy w (rooted w s g (q .first)) g i (q .afresh) .free g (q .leaf) ≡ true
 
-record Filled (b : Board) (g i j v : ℕ) (q : Picks) : Type 0 where
-  after : Board
-  is : chain b g i j v q ≡ reached after tt
-  same : plain after ≡ plain-chain (world b) q (plain b) g i j v
-  kept : Kept b after
-  fair : FairPlain (world b) q (plain b) g i
+pub record Filled (b : Board) (g i j v : ℕ) (q : Picks) : Type 0 where
+  pub after : Board
+  pub is : chain b g i j v q ≡ reached after tt
+  pub same : plain after ≡ plain-chain (world b) q (plain b) g i j v
+  pub kept : Kept b after
+  pub fair : FairPlain (world b) q (plain b) g i
 
-do-chain : (b : Board) (g i j v : ℕ) (q : Picks) → Fit b g → i < 1024 → j < 1024 → FairChain b g i q → Filled b g i j v q
+pub do-chain : (b : Board) (g i j v : ℕ) (q : Picks) → Fit b g → i < 1024 → j < 1024 → FairChain b g i q → Filled b g i j v q
 unfolding HasLeaf
 do-chain b g i j v q F li lj M =
     let D1 = do-rooted b g (q .first) F (M .0) in

@@ -22,3 +22,4 @@ mod Taking
 mod Faulting
 mod Reading
 mod Wiping
+mod Stepping

@@ -81,11 +81,11 @@ table-read v va e l = ap (λ x. first-level x va) e ∙ table-of (page-in v) va 
     table-of : (p va : ℕ) → p < 1048576 → first-level (leaf-mark p) va ≡ FirstLevel.Table p (second-index va)
     table-of p va l = search needs
 
-some-right : (v : ℕ) → 1 ≤ rank (right-in v)
-some-right v = by-test (λ b. 1 ≤ rank (cond b Write Read)) (eqb (v % 4096) 0x3E) (λ e. lit≤ tt) (λ e. lit≤ tt)
+pub right-some : (v : ℕ) → 1 ≤ rank (right-in v)
+right-some v = by-test (λ b. 1 ≤ rank (cond b Write Read)) (eqb (v % 4096) 0x3E) (λ e. lit≤ tt) (λ e. lit≤ tt)
 
 pub page-read : (v va : ℕ) → v ≡ map-word (page-in v) (right-in v) → page-in v < 1048576 → second-level v va ≡ SecondLevel.SmallPage (page-in v) (right-in v)
-page-read v va e l = ap (λ x. second-level x va) e ∙ page-of (page-in v) (right-in v) va l (some-right v)
+page-read v va e l = ap (λ x. second-level x va) e ∙ page-of (page-in v) (right-in v) va l (right-some v)
   where
     page-of : (p : ℕ) (r : Right) (va : ℕ) → p < 1048576 → 1 ≤ rank r → second-level (map-word p r) va ≡ SecondLevel.SmallPage p r
     page-of p Nothing va l h = absurd (omega arith)
@@ -102,6 +102,10 @@ zero-first va = refl
 
 zero-second : (va : ℕ) → second-level 0 va ≡ SecondLevel.Invalid
 zero-second va = refl
+
+-- there is no word past the end of a page
+pub far-place : (m : Mem) (r n : ℕ) → 1024 ≤ n → word-at m r n ≡ 0
+far-place m r n h = search needs
 
 module _ (b : Board) (g : ℕ) (L : Lawful (world b)) (G : Good (world b) (plain b)) where
   -- a word of a page that is enrolled can be read
@@ -140,9 +144,6 @@ module _ (b : Board) (g : ℕ) (L : Lawful (world b)) (G : Good (world b) (plain
       (subst (λ (o : Option ℕ). Says (word-at (b .memory) (page-in u) (va / 4096 % 256)) (next (word-or o SecondLevelWalk) (λ w. ask-second (second-level w va)))) (sym sn)
       (by-leaf va (word-at (b .memory) (page-in u) (va / 4096 % 256)) (λ y. G .1 .map-in g r n (page-in u) (va / 4096 % 256) lf y))))
       refl
-
-  far-place : (m : Mem) (r n : ℕ) → 1024 ≤ n → word-at m r n ≡ 0
-  far-place m r n h = search needs
 
   pub shadow-says : (va : ℕ) → Says (shadow (plain b) g va) (steps.shadow b g va)
   shadow-says va =

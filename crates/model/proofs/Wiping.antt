@@ -17,11 +17,11 @@ use Rattle.model.specs.Boards.{Board, word-at}
 use Rattle.model.specs.Boards as board
 use Rattle.model.specs.Steps.{wipe-entry, wipe-one, wipe-all, wiped}
 use Rattle.model.proofs.Plain.{World, State, Space, enrolled, put, leaf-mark, page-in, names, wipe}
-use Rattle.model.proofs.Sound.{Lawful, Sound, In}
+use Rattle.model.proofs.Sound.{Lawful, Sound, In, is-root, is-leaf}
 use Rattle.model.proofs.Basics.{test, by-test, clash, root-leaf}
 use Rattle.model.proofs.Filling.{Good}
-use Rattle.model.proofs.Abstract.{plain-space, plain, world, state-path, word-written, has-written}
-use Rattle.model.proofs.Reading.{first-low, first-small, table-read}
+use Rattle.model.proofs.Abstract.{key-number, plain-space, plain, world, state-path, word-written, has-written}
+use Rattle.model.proofs.Reading.{first-low, table-read, far-place}
 use Rattle.model.proofs.Taking.{Kept, kept-refl, kept-memory}
 
 module _ (va : ℕ) (low : va < 0x40000000) where
@@ -130,3 +130,75 @@ module _ (va : ℕ) (low : va < 0x40000000) where
       all-words m′ l N′ (all-off-as m m′ l same os) p i
       ∙ ap₂ (λ t y. cond (t && eqb i (va / 4096 % 256)) 0 y) (names-as m m′ l p same) (one-word m (x .root) a p i)
       ∙ two-hits (hit m (x .root) p) (names (word-at m) (map plain-space l) (va / 1048576) p) (eqb i (va / 4096 % 256)) (word-at m p i)
+
+module _ (b : Board) (g : ℕ) (L : Lawful (world b)) (G : Good (world b) (plain b)) where
+  abbrev Root : ℕ → Type 0
+  Root r = (k : ℕ) × (G .0 r ≡ is-root g k)
+
+  a-root : (x : board.Space) → In (plain-space x) (map plain-space (b .guest g .spaces)) → Root (x .root)
+  a-root x i = (key-number (x .key), G .1 .root-in g (key-number (x .key)) (x .root) (G .1 .listed g (plain-space x) i))
+
+  module _ (va : ℕ) (low : va < 0x40000000) where
+    leaf-role : (r : ℕ) → Root r → ¬ (word-at (b .memory) r (va / 1048576) ≡ 0) → G .0 (page-in (word-at (b .memory) r (va / 1048576))) ≡ is-leaf g r (va / 1048576)
+    leaf-role r (k, e) z = G .1 .leaf-in g k r (va / 1048576) e z
+
+    leaf-enrolled : (r : ℕ) → Root r → ¬ (word-at (b .memory) r (va / 1048576) ≡ 0) → enrolled (world b) g (page-in (word-at (b .memory) r (va / 1048576))) ≡ true
+    leaf-enrolled r R z = G .1 .used-leaf g r (va / 1048576) (page-in (word-at (b .memory) r (va / 1048576))) (leaf-role r R z) .0
+
+    named : (r : ℕ) → Root r → Named va low (b .memory) r
+    named r R = record {
+      form = λ z. G .1 .root-form g (R .0) r (va / 1048576) (R .1) z;
+      small = λ z. omega (arith, L .in-window g (page-in (word-at (b .memory) r (va / 1048576))) (leaf-enrolled r R z), L .window-size);
+      there = λ z. ap₂ _&&_ (L .is-present g (page-in (word-at (b .memory) r (va / 1048576))) (leaf-enrolled r R z)) (lt-ltb (va / 4096 % 256) 1024 (omega arith));
+    }
+
+    not-hit : (r p : ℕ) → Root r → Root p → hit va low (b .memory) r p ≡ false
+    not-hit r p R S =
+        let u = word-at (b .memory) r (va / 1048576) in
+        test (eqb u 0)
+        (λ e. ap (λ t. not t && eqb (page-in u) p) e)
+        (λ e. test (eqb (page-in u) p)
+          (λ d. root-leaf (S .1) (subst (λ q. G .0 q ≡ is-leaf g r (va / 1048576)) (eqb-true (page-in u) p d) (leaf-role r R (eqb-false u 0 e))))
+          (λ d. ap₂ (λ s t. not s && t) e d))
+
+    each : (P : board.Space → Type 0) (l : List board.Space) → ((x : board.Space) → In (plain-space x) (map plain-space l) → P x) → Of va low P l
+    each P [] f = tt
+    each P (x ∷ l) f = (f x (inl refl), each P l (λ y i. f y (inr i)))
+
+    apart : (l : List board.Space) → ((x : board.Space) → In (plain-space x) (map plain-space l) → Root (x .root)) → AllOff va low (b .memory) l
+    apart [] f = tt
+    apart (x ∷ l) f = (each (λ y. hit va low (b .memory) (x .root) (y .root) ≡ false) l (λ y i. not-hit (x .root) (y .root) (f x (inl refl)) (f y (inr i))), apart l (λ y i. f y (inr i)))
+
+    low-wiped : plain (board.with-memory b (wipe-all (b .memory) (b .guest g .spaces) va)) ≡ wipe (plain b) g (va / 1048576) (va / 4096 % 256)
+    unfolding wipe
+    low-wiped =
+        state-path (plain (board.with-memory b (wipe-all (b .memory) (b .guest g .spaces) va))) (wipe (plain b) g (va / 1048576) (va / 4096 % 256))
+        (λ p i. all-words va low (b .memory) (b .guest g .spaces) (each (λ x. Named va low (b .memory) (x .root)) (b .guest g .spaces) (λ x i. named (x .root) (a-root x i))) (apart (b .guest g .spaces) a-root) p i)
+        (λ h q. refl)
+        (λ h. refl)
+        refl
+
+  far-names : (l : List board.Space) (n p : ℕ) → 1024 ≤ n → names (word-at (b .memory)) (map plain-space l) n p ≡ false
+  far-names [] n p h = refl
+  far-names (x ∷ l) n p h = ap₂ (λ u t. (not (eqb u 0) && eqb (page-in u) p) || t) (far-place (b .memory) (x .root) n h) (far-names l n p h)
+
+  far-wiped : (n j : ℕ) → 1024 ≤ n → plain b ≡ wipe (plain b) g n j
+  unfolding wipe
+  far-wiped n j h =
+      state-path (plain b) (wipe (plain b) g n j)
+      (λ p i. sym (ap (λ t. cond (t && eqb i j) 0 (word-at (b .memory) p i)) (far-names (b .guest g .spaces) n p h)))
+      (λ h q. refl)
+      (λ h. refl)
+      refl
+
+  pub plain-wiped : (va : ℕ) → plain (wiped b g va) ≡ wipe (plain b) g (va / 1048576) (va / 4096 % 256)
+  plain-wiped va = by-test (λ t. ltb va 0x40000000 ≡ t → plain (cond t (board.with-memory b (wipe-all (b .memory) (b .guest g .spaces) va)) b) ≡ wipe (plain b) g (va / 1048576) (va / 4096 % 256)) (ltb va 0x40000000)
+      (λ t l. low-wiped va (ltb-true va 0x40000000 l))
+      (λ t l. far-wiped (va / 1048576) (va / 4096 % 256) (omega (arith, ltb-false va 0x40000000 l)))
+      refl
+
+  pub kept-wiped : (va : ℕ) → Kept b (wiped b g va)
+  kept-wiped va = by-test (λ t. ltb va 0x40000000 ≡ t → Kept b (cond t (board.with-memory b (wipe-all (b .memory) (b .guest g .spaces) va)) b)) (ltb va 0x40000000)
+      (λ t l. kept-memory b (wipe-all (b .memory) (b .guest g .spaces) va) (all-has va (ltb-true va 0x40000000 l) (b .memory) (b .guest g .spaces)))
+      (λ t l. kept-refl b)
+      refl
