@@ -23,3 +23,4 @@ mod Faulting
 mod Reading
 mod Wiping
 mod Stepping
+mod Telling

@@ -13,6 +13,7 @@ use Rattle.std.specs.declared.option.Option.the-variants.{None, Some}
 use Rattle.std.specs.declared.result.Result.{Result}
 use Rattle.std.specs.declared.result.Result.the-variants.{Ok, Err}
 use Rattle.platform.specs.declared.access.Access.{Access}
+use Rattle.platform.specs.declared.refusal.Refusal.{Refusal}
 use Rattle.platform.specs.declared.refusal.Refusal.the-variants.{GuestOutOfRange, NotAdmitted, NoGuestRuns, Misaligned, NotMapped}
 use Rattle.platform.specs.declared.right.Right.{Right}
 use Rattle.platform.specs.declared.right.Right.the-variants.{Nothing, Read, Write}
@@ -33,6 +34,7 @@ use Rattle.model.specs.Boards.{Board}
 use Rattle.model.specs.Boards as board
 use Rattle.model.specs.Fills.{Reached, Picks, dropped}
 use Rattle.model.specs.Fills as fills
+use Rattle.model.specs.Histories.{or-else, is-done, scheduled as names-guest}
 use Rattle.model.specs.Steps.{Turn, answers, status-code, wiped}
 use Rattle.model.specs.Steps as steps
 use Rattle.model.proofs.Plain.{World, State, at, key-of, paging-in, looks, page-in, right-in, map-word, drop, write, wipe, filled, set-regs, walked, fault-by, is-write, load-by, store-by, shadow, mapping-at, guest-step, by-running, runs-next, scheduled, step}
@@ -162,19 +164,24 @@ store-agrees b g va x F = by-test (λ t. Agrees b (cond t (steps.store-by b va x
     (λ t. nothing-done b (Refused Misaligned))
 
 -- a call agrees with the plain board's, and leaves what holds between two calls
-record Went (b : Board) (t : Turn) (r : State × Answer) : Type 0 where
+record Went (b : Board) (c : Call) (t : Turn) (r : State × Answer) : Type 0 where
   same : plain (t .after) ≡ r .0
   says : t .answer ≡ r .1
   same-world : world (t .after) ≡ world b
   tied : Tied (t .after)
+  running : t .after .running ≡ cond (is-done (t .answer)) (or-else (names-guest c) (b .running)) (b .running)
   runner : (g : ℕ) → t .after .running ≡ Some g → (is-guest g ≡ true) × (world b .admitted g ≡ true)
 
-by-guest : (b : Board) (t : Turn) (r : State × Answer) → Steady b → Agrees b t r → Went b t r
-by-guest b t r S A = record {
+still-runs : (o : Option ℕ) (d : Bool) → cond d (or-else None o) o ≡ o
+still-runs o d = by-test (λ t. cond t o o ≡ o) d (λ e. refl) (λ e. refl)
+
+by-guest : (b : Board) (c : Call) (t : Turn) (r : State × Answer) → Steady b → names-guest c ≡ None → Agrees b t r → Went b c t r
+by-guest b c t r S n A = record {
   same = A .same;
   says = A .says;
   same-world = A .kept .same-world;
   tied = A .kept .still-tied (S .tied);
+  running = A .kept .same-running ∙ sym (ap (λ o. cond (is-done (t .answer)) (or-else o (b .running)) (b .running)) n ∙ still-runs (b .running) (is-done (t .answer)));
   runner = λ g e. S .runner g (sym (A .kept .same-running) ∙ e);
 }
 
@@ -182,21 +189,24 @@ guest-not-zero : (g : ℕ) → is-guest g ≡ true → eqb g 0 ≡ false
 guest-not-zero g e = ne-eqb g 0 (λ z. clash (ap is-guest (sym z) ∙ e) refl)
 
 -- a call of the guest that runs
-going : (b : Board) → Steady b → (f : ℕ → Turn) (r : ℕ → State × Answer) → ((g : ℕ) → b .running ≡ Some g → Agrees b (f g) (r g)) → Went b (steps.guest-call b f) (by-running (plain b) (r (who (b .running))))
-going b S f r A = by-option (λ o. b .running ≡ o → Went b (steps.by-guest b o f) (cond (eqb (who o) 0) (plain b, Refused NoGuestRuns) (r (who o)))) (b .running)
-    (λ e d. by-guest b (answers b (Refused NoGuestRuns)) (plain b, Refused NoGuestRuns) S (nothing-done b (Refused NoGuestRuns)))
-    (λ g e d. subst (λ t. Went b (f g) (cond t (plain b, Refused NoGuestRuns) (r g))) (sym (guest-not-zero g (S .runner g d .0))) (by-guest b (f g) (r g) S (A g d)))
+going : (b : Board) → Steady b → (c : Call) → names-guest c ≡ None → (f : ℕ → Turn) (r : ℕ → State × Answer) → ((g : ℕ) → b .running ≡ Some g → Agrees b (f g) (r g)) → Went b c (steps.guest-call b f) (by-running (plain b) (r (who (b .running))))
+going b S c n f r A = by-option (λ o. b .running ≡ o → Went b c (steps.by-guest b o f) (cond (eqb (who o) 0) (plain b, Refused NoGuestRuns) (r (who o)))) (b .running)
+    (λ e d. by-guest b c (answers b (Refused NoGuestRuns)) (plain b, Refused NoGuestRuns) S n (nothing-done b (Refused NoGuestRuns)))
+    (λ g e d. subst (λ t. Went b c (f g) (cond t (plain b, Refused NoGuestRuns) (r g))) (sym (guest-not-zero g (S .runner g d .0))) (by-guest b c (f g) (r g) S n (A g d)))
     refl
 
 -- a schedule
-schedule-went : (b : Board) (g : ℕ) → Steady b → Went b (steps.schedule b g) (scheduled (world b) (plain b) g)
+refused : (b : Board) (c : Call) (e : Refusal) → Steady b → Went b c (answers b (Refused e)) (plain b, Refused e)
+refused b c e S = record { same = refl; says = refl; same-world = refl; tied = S .tied; running = refl; runner = S .runner }
+
+schedule-went : (b : Board) (g : ℕ) → Steady b → Went b (Schedule g) (steps.schedule b g) (scheduled (world b) (plain b) g)
 schedule-went b g S =
-    by-test (λ t. is-guest g ≡ t → Went b (cond t (cond (b .guest g .admitted) (answers (board.with-running b g) Done) (answers b (Refused NotAdmitted))) (answers b (Refused GuestOutOfRange))) (cond t (cond (b .guest g .admitted) (runs-next (plain b) g, Done) (plain b, Refused NotAdmitted)) (plain b, Refused GuestOutOfRange))) (is-guest g)
-    (λ t e. by-test (λ u. b .guest g .admitted ≡ u → Went b (cond u (answers (board.with-running b g) Done) (answers b (Refused NotAdmitted))) (cond u (runs-next (plain b) g, Done) (plain b, Refused NotAdmitted))) (b .guest g .admitted)
-      (λ u d. record { same = refl; says = refl; same-world = refl; tied = S .tied; runner = λ h z. subst (λ k. (is-guest k ≡ true) × (world b .admitted k ≡ true)) (some-inj z) (e, d) })
-      (λ u d. by-guest b (answers b (Refused NotAdmitted)) (plain b, Refused NotAdmitted) S (nothing-done b (Refused NotAdmitted)))
+    by-test (λ t. is-guest g ≡ t → Went b (Schedule g) (cond t (cond (b .guest g .admitted) (answers (board.with-running b g) Done) (answers b (Refused NotAdmitted))) (answers b (Refused GuestOutOfRange))) (cond t (cond (b .guest g .admitted) (runs-next (plain b) g, Done) (plain b, Refused NotAdmitted)) (plain b, Refused GuestOutOfRange))) (is-guest g)
+    (λ t e. by-test (λ u. b .guest g .admitted ≡ u → Went b (Schedule g) (cond u (answers (board.with-running b g) Done) (answers b (Refused NotAdmitted))) (cond u (runs-next (plain b) g, Done) (plain b, Refused NotAdmitted))) (b .guest g .admitted)
+      (λ u d. record { same = refl; says = refl; same-world = refl; tied = S .tied; running = refl; runner = λ h z. subst (λ k. (is-guest k ≡ true) × (world b .admitted k ≡ true)) (some-inj z) (e, d) })
+      (λ u d. refused b (Schedule g) NotAdmitted S)
       refl)
-    (λ t e. by-guest b (answers b (Refused GuestOutOfRange)) (plain b, Refused GuestOutOfRange) S (nothing-done b (Refused GuestOutOfRange)))
+    (λ t e. refused b (Schedule g) GuestOutOfRange S)
     refl
 
 -- the pages that a fault takes are free, also where no guest runs: the walk of guest 0 maps nothing
@@ -219,17 +229,17 @@ module _ (b : Board) (S : Steady b) (q : Picks) where
       (λ g e d m z. fault-at va x M g d .fair m z)
       refl
 
-  went : (c : Call) → steps.Fair b c q → Went b (steps.step b c q) (step w q (plain b) c)
+  went : (c : Call) → steps.Fair b c q → Went b c (steps.step b c q) (step w q (plain b) c)
   went (Schedule g) M = schedule-went b g S
-  went (Switch base) M = going b S (λ g. answers (board.with-guest b g (board.with-base (b .guest g) (base / 4096))) Done) (λ g. guest-step w q (plain b) g (Switch base)) (λ g e. regs-set b g (board.with-base (b .guest g) (base / 4096)) Done refl refl refl)
-  went PagingOn M = going b S (λ g. answers (board.with-guest b g (board.with-paging (b .guest g) true)) Done) (λ g. guest-step w q (plain b) g PagingOn) (λ g e. regs-set b g (board.with-paging (b .guest g) true) Done refl refl refl)
-  went PagingOff M = going b S (λ g. answers (board.with-guest b g (board.with-paging (b .guest g) false)) Done) (λ g. guest-step w q (plain b) g PagingOff) (λ g e. regs-set b g (board.with-paging (b .guest g) false) Done refl refl refl)
-  went Flush M = going b S (λ g. answers (dropped b g) Done) (λ g. guest-step w q (plain b) g Flush) (λ g e. record { same = plain-drop b g (S .runner g e .0) (S .tied) (S .good); says = refl; kept = kept-drop b g (fit b g S e) })
-  went (FlushPage va) M = going b S (λ g. answers (wiped b g va) Done) (λ g. guest-step w q (plain b) g (FlushPage va)) (λ g e. record { same = plain-wiped b g (S .lawful) (S .good) va; says = refl; kept = kept-wiped b g (S .lawful) (S .good) va })
-  went (Fault va x) M = going b S (λ g. steps.fault b g va x q) (λ g. guest-step w q (plain b) g (Fault va x)) (λ g e. as-agrees b (fault-is b g va x q) refl (fault-at va x M g e .turn))
-  went (Load va) M = going b S (λ g. answers b (steps.load b g va)) (λ g. guest-step w q (plain b) g (Load va)) (λ g e. load-agrees b g va (fit b g S e))
-  went (Store va x) M = going b S (λ g. steps.store b g va x) (λ g. guest-step w q (plain b) g (Store va x)) (λ g e. store-agrees b g va x (fit b g S e))
-  went Call.Status M = going b S (λ g. answers b (Answer.Status (b .guest g .code) (b .guest g .address))) (λ g. guest-step w q (plain b) g Call.Status) (λ g e. nothing-done b (Answer.Status (b .guest g .code) (b .guest g .address)))
+  went (Switch base) M = going b S (Switch base) refl (λ g. answers (board.with-guest b g (board.with-base (b .guest g) (base / 4096))) Done) (λ g. guest-step w q (plain b) g (Switch base)) (λ g e. regs-set b g (board.with-base (b .guest g) (base / 4096)) Done refl refl refl)
+  went PagingOn M = going b S PagingOn refl (λ g. answers (board.with-guest b g (board.with-paging (b .guest g) true)) Done) (λ g. guest-step w q (plain b) g PagingOn) (λ g e. regs-set b g (board.with-paging (b .guest g) true) Done refl refl refl)
+  went PagingOff M = going b S PagingOff refl (λ g. answers (board.with-guest b g (board.with-paging (b .guest g) false)) Done) (λ g. guest-step w q (plain b) g PagingOff) (λ g e. regs-set b g (board.with-paging (b .guest g) false) Done refl refl refl)
+  went Flush M = going b S Flush refl (λ g. answers (dropped b g) Done) (λ g. guest-step w q (plain b) g Flush) (λ g e. record { same = plain-drop b g (S .runner g e .0) (S .tied) (S .good); says = refl; kept = kept-drop b g (fit b g S e) })
+  went (FlushPage va) M = going b S (FlushPage va) refl (λ g. answers (wiped b g va) Done) (λ g. guest-step w q (plain b) g (FlushPage va)) (λ g e. record { same = plain-wiped b g (S .lawful) (S .good) va; says = refl; kept = kept-wiped b g (S .lawful) (S .good) va })
+  went (Fault va x) M = going b S (Fault va x) refl (λ g. steps.fault b g va x q) (λ g. guest-step w q (plain b) g (Fault va x)) (λ g e. as-agrees b (fault-is b g va x q) refl (fault-at va x M g e .turn))
+  went (Load va) M = going b S (Load va) refl (λ g. answers b (steps.load b g va)) (λ g. guest-step w q (plain b) g (Load va)) (λ g e. load-agrees b g va (fit b g S e))
+  went (Store va x) M = going b S (Store va x) refl (λ g. steps.store b g va x) (λ g. guest-step w q (plain b) g (Store va x)) (λ g e. store-agrees b g va x (fit b g S e))
+  went Call.Status M = going b S Call.Status refl (λ g. answers b (Answer.Status (b .guest g .code) (b .guest g .address))) (λ g. guest-step w q (plain b) g Call.Status) (λ g e. nothing-done b (Answer.Status (b .guest g .code) (b .guest g .address)))
 
   fair : (c : Call) → steps.Fair b c q → Fair w q (plain b) c
   fair (Schedule g) M = tt
@@ -249,6 +259,7 @@ pub record Stepped (b : Board) (c : Call) (q : Picks) : Type 0 where
   pub says : steps.step b c q .answer ≡ step (world b) q (plain b) c .1
   pub is-fair : Fair (world b) q (plain b) c
   pub same-world : world (steps.step b c q .after) ≡ world b
+  pub running : steps.step b c q .after .running ≡ cond (is-done (steps.step b c q .answer)) (or-else (names-guest c) (b .running)) (b .running)
   pub steady : Steady (steps.step b c q .after)
 
 pub stepped : (b : Board) (c : Call) (q : Picks) → Steady b → steps.Fair b c q → Stepped b c q
@@ -261,6 +272,7 @@ stepped b c q S M =
       says = W .says;
       is-fair = F;
       same-world = sw;
+      running = W .running;
       steady = record {
         lawful = subst Lawful (sym sw) (S .lawful);
         good = subst (λ (v : World). Good v (plain (steps.step b c q .after))) (sym sw) (subst (Good (world b)) (sym (W .same)) (good-step (world b) (S .lawful) q (plain b) c F (S .good)));
