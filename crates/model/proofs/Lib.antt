@@ -24,3 +24,5 @@ mod Reading
 mod Wiping
 mod Stepping
 mod Telling
+mod Logs
+mod Coming
