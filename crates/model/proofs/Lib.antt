@@ -26,3 +26,4 @@ mod Stepping
 mod Telling
 mod Logs
 mod Coming
+mod Promises

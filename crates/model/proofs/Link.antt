@@ -80,7 +80,7 @@ less-before G a m =
     (less-cond (not (c .leaf (key-of (c .regs)) m)) c _ c (less-leaf c m) (less-refl c))
 
 -- what a Fault does to a Mapped
-data Fills (a : Alone) (va v k n j new : ℕ) : Type 0 where
+pub data Fills (a : Alone) (va v k n j new : ℕ) : Type 0 where
   exact : k ≡ key-of (a .regs) → n ≡ va / 1048576 → j ≡ va / 4096 % 256 → new ≡ v → Fills a va v k n j new
   left : (k ≡ key-of (a .regs) → n ≡ va / 1048576 → j ≡ va / 4096 % 256 → ⊥) → (new ≡ 0) ⊎ (new ≡ a .map k n j) → Fills a va v k n j new
 
@@ -97,7 +97,7 @@ fills a b va v k n j S =
     less : {x : ℕ} → x ≡ b .map k n j → (x ≡ 0) ⊎ (x ≡ a .map k n j)
     less y = elim (S .maps k n j) [ inl z ↦ inl (y ∙ z) | inr z ↦ inr (y ∙ z) ]
 
-filled-map : (G : Given) (a : Alone) (va v k n j : ℕ) → Fills a va v k n j (own-filled G a va v .map k n j)
+pub filled-map : (G : Given) (a : Alone) (va v k n j : ℕ) → Fills a va v k n j (own-filled G a va v .map k n j)
 unfolding own-filled
 filled-map G a va v k n j = fills a _ va v k n j (less-before G a (va / 1048576))
 

@@ -47,7 +47,7 @@ use Rattle.model.proofs.Taking.{present-same}
 paging-same : (x : board.Guest) → paging-in (key-of (plain-regs x)) ≡ board.key-of x
 paging-same x = by-test (λ b. paging-in (cond b (suc (x .base)) 0) ≡ cond b (On (x .base)) Off) (x .paging) (λ e. refl) (λ e. refl)
 
-word-there : (m : Mem) (p k : ℕ) → m .has p ≡ true → k < 1024 → m .word p k ≡ word-at m p k
+pub word-there : (m : Mem) (p k : ℕ) → m .has p ≡ true → k < 1024 → m .word p k ≡ word-at m p k
 word-there m p k h l = sym (ap₂ (λ a b. cond (a && b) (m .word p k) 0) h (lt-ltb k 1024 l))
 
 sight-there : (b : Board) (g : ℕ) → sight (b .memory) (b .book .right g) (b .window) ≡ looks (world b) (plain b) g
