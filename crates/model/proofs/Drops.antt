@@ -44,11 +44,11 @@ use Rattle.model.proofs.Others.{OnlyOf, only-refl, only-drop, only-filled, alo
 use Rattle.model.proofs.Cases.{case-schedule, case-switch, case-on, case-off, case-status, case-flush, case-fault, case-load, case-store}
 use Rattle.model.proofs.Link.{Linked, link-shift, split-va}
 
-record DropsTables (w : World) (g : ℕ) (s t : State) : Type 0 where
-  tables-zero : (p k : ℕ) → Used (s .word) (s .guest g .spaces) p → t .word p k ≡ 0
-  tables-free : (p : ℕ) → Used (s .word) (s .guest g .spaces) p → t .free g p ≡ true
-  rest-words : (p k : ℕ) → ¬ Used (s .word) (s .guest g .spaces) p → t .word p k ≡ s .word p k
-  rest-free : (p : ℕ) → ¬ Used (s .word) (s .guest g .spaces) p → t .free g p ≡ s .free g p
+pub record DropsTables (w : World) (g : ℕ) (s t : State) : Type 0 where
+  pub tables-zero : (p k : ℕ) → Used (s .word) (s .guest g .spaces) p → t .word p k ≡ 0
+  pub tables-free : (p : ℕ) → Used (s .word) (s .guest g .spaces) p → t .free g p ≡ true
+  pub rest-words : (p k : ℕ) → ¬ Used (s .word) (s .guest g .spaces) p → t .word p k ≡ s .word p k
+  pub rest-free : (p : ℕ) → ¬ Used (s .word) (s .guest g .spaces) p → t .free g p ≡ s .free g p
 
 module _ (w : World) (L : Lawful w) (s : State) (G : Good w s) (g : ℕ) where
   used-enrolled : (p : ℕ) → Used (s .word) (s .guest g .spaces) p → enrolled w g p ≡ true
@@ -62,7 +62,7 @@ module _ (w : World) (L : Lawful w) (s : State) (G : Good w s) (g : ℕ) where
   unfolding drop
   drop-free-is p = ap (λ (f : ℕ → Bool). f p) (at-same (s .free) g (enrolled w g))
 
-  drops-tables : DropsTables w g s (drop w s g)
+  pub drops-tables : DropsTables w g s (drop w s g)
   unfolding drop
   drops-tables = record {
     tables-zero = λ p k u. ap (λ b. cond b 0 (s .word p k)) (used-enrolled p u);

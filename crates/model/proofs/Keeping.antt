@@ -85,6 +85,12 @@ module _ (w : World) (L : Lawful w) where
   granted-allowed g s va x m e =
       as-allowed g x m (other-words (s .word) g x m (landing.allowed (record { has = w .has; word = s .word }) (record { right = w .right; pool = w .pool }) (w .window) g (paging-in (key-of (s .guest g .regs))) va x (L .pool-none) (Ok m) (sym e)))
 
+  -- and has some right
+  pub granted-some : (g : ℕ) (s : State) (va : ℕ) (x : Access) (m : Mapping) → walked w s g va x ≡ Ok m → 1 ≤ rank (m .right)
+  granted-some g s va x m e =
+      let k : MayMap (record { has = w .has; word = s .word }) (record { right = w .right; pool = w .pool }) (w .window) g x m = landing.allowed (record { has = w .has; word = s .word }) (record { right = w .right; pool = w .pool }) (w .window) g (paging-in (key-of (s .guest g .regs))) va x (L .pool-none) (Ok m) (sym e) in
+      enough-some (m .right) x (k .enough)
+
   pub map-allowed : (s : State) (g k n j : ℕ) → Good w s → ¬ (mapping-at s (root-at k (s .guest g .spaces)) n j ≡ 0) → Allowed w g (mapping-at s (root-at k (s .guest g .spaces)) n j)
   map-allowed s g k n j G = by-option (λ o. ¬ (mapping-at s o n j ≡ 0) → Allowed w g (mapping-at s o n j)) (root-at k (s .guest g .spaces))
       (λ e m. absurd (m refl))

@@ -27,3 +27,5 @@ mod Telling
 mod Logs
 mod Coming
 mod Promises
+mod Serving
+mod Partition

@@ -62,7 +62,7 @@ module _ (w : World) (g h : ℕ) where
   unfolding wipe
   regs-wipe s n j = refl
 
-  regs-filled : (q : Picks) (s : State) (va v : ℕ) → filled w q s g va v .guest h .regs ≡ s .guest h .regs
+  pub regs-filled : (q : Picks) (s : State) (va v : ℕ) → filled w q s g va v .guest h .regs ≡ s .guest h .regs
   unfolding filled
   regs-filled q s va v =
       regs-write (leafed (roomy w (rooted w s g (q .first)) g (va / 1048576) (q .afresh)) g (va / 1048576) (q .leaf)) _ _ v

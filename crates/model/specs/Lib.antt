@@ -4,3 +4,4 @@ pub mod Steps
 pub mod Starts
 pub mod Histories
 pub mod Shifts
+pub mod Tables
