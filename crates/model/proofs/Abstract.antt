@@ -1,30 +1,27 @@
 -- A board as a plain board: its words, its free pages, its guests and who runs, with keys as numbers.
-use mathlib.Core.Path.{_≡_, refl, sym, ap, ap₂, subst, _∙_, fun-ext}
+use mathlib.Core.Path.{_≡_, refl, sym, ap, ap₂, subst, _∙_}
 use mathlib.Core.Bool.{Bool, true, false, cond, not, _&&_, _||_}
 use mathlib.Core.List.{List, [], _∷_, map}
-use Prim.Native.Nat.{ℕ, zero, suc, _+_, _*_, _/_, _%_, _≤_, _<_}
-use lib.Dec.{eqb, leb, ltb}
+use Prim.Native.Nat.{ℕ, suc}
+use lib.Dec.{eqb}
 use lib.ListN.{length}
 use native.Mathlib.Omega.{arith}
 use borrow.Author.Needs.{needs}
-use borrow.Author.Tests.{eqb-true, eqb-false, eq-eqb, ne-eqb}
+use borrow.Author.Tests.{eqb-true}
 use Rattle.std.proofs.shelf.Ways.{tells}
 use Rattle.std.specs.Results.{isOk}
 use Rattle.std.specs.declared.option.Option.{Option}
 use Rattle.std.specs.declared.option.Option.the-variants.{None, Some}
-use Rattle.platform.specs.Guests.{is-guest}
 use Rattle.platform.specs.Keepers.{Keep, marked, give-answer}
-use Rattle.platform.specs.Lists.{any, member}
+use Rattle.platform.specs.Lists.{member}
 use Rattle.platform.specs.Memories.{Mem, inside, written, cleared}
 use Rattle.walk.specs.declared.mapping.Paging.{Paging}
 use Rattle.walk.specs.declared.mapping.Paging.the-variants.{Off, On}
-use Rattle.model.specs.Boards.{Board, word-at, same-key, with-spaces}
+use Rattle.model.specs.Boards.{Board, word-at, same-key}
 use Rattle.model.specs.Boards as board
-use Rattle.model.specs.Fills.{drop-page, drop-pages, dropped}
-use Rattle.model.proofs.Plain.{Space, Regs, Guest, World, State, key-of, root-at, enrolled, put, at, drop}
-use Rattle.model.proofs.Sound.{Lawful, Sound}
-use Rattle.model.proofs.Basics.{test, by-test, clash, at-is, at-other, on}
-use Rattle.model.proofs.Filling.{Good}
+use Rattle.model.specs.Fills.{drop-pages}
+use Rattle.model.proofs.Plain.{Space, Regs, Guest, World, State, key-of, root-at, put, drop}
+use Rattle.model.proofs.Basics.{by-test}
 
 abbrev pub key-number : Paging → ℕ
 key-number Off = 0

@@ -1,36 +1,23 @@
 -- Each change of a guest's own is that of the guest alone.
-use mathlib.Core.Path.{_≡_, refl, sym, ap, ap₂, subst, _∙_, fun-ext}
-use mathlib.Core.Bool.{Bool, true, false, cond, not, _&&_, _||_}
-use mathlib.Core.List.{List, [], _∷_}
-use Prim.Native.Nat.{ℕ, suc, _/_, _%_, _≤_, _-_}
+use mathlib.Core.Path.{_≡_, refl, sym, ap, ap₂, subst, _∙_}
+use mathlib.Core.Bool.{Bool, true, false, cond, not, _&&_}
+use Prim.Native.Nat.{ℕ, _-_}
 use lib.Dec.{eqb, leb}
-use lib.ListN.{length}
 use native.Mathlib.Omega.{arith}
-use borrow.Author.Tests.{eqb-true, eqb-false, eq-eqb, ne-eqb, leb-true}
+use borrow.Author.Tests.{eqb-false, eq-eqb, ne-eqb, leb-true}
 use Rattle.std.specs.declared.option.Option.{Option}
 use Rattle.std.specs.declared.option.Option.the-variants.{None, Some}
-use Rattle.platform.specs.Lists.{count, member}
+use Rattle.platform.specs.Lists.{count}
 use Rattle.std.specs.Options.{isSome}
-use Rattle.std.specs.declared.result.Result.{Result}
-use Rattle.std.specs.declared.result.Result.the-variants.{Ok, Err}
-use Rattle.platform.specs.declared.access.Access.{Access}
-use Rattle.platform.specs.declared.refusal.Refusal.{Refusal}
-use Rattle.platform.specs.declared.refusal.Refusal.the-variants.{GuestOutOfRange, NotAdmitted, NoGuestRuns, Misaligned, NotMapped}
-use Rattle.platform.specs.declared.right.Right.{Right}
-use Rattle.platform.specs.declared.right.Right.the-variants.{Nothing, Read, Write}
-use Rattle.platform.specs.Guests.{is-guest}
 use Rattle.platform.specs.Rights.{rank}
-use Rattle.walk.specs.declared.abort.Abort.{Abort}
-use Rattle.walk.specs.declared.mapping.Mapping.{Mapping}
-use Rattle.model.specs.Fills.{Picks}
-use Rattle.model.proofs.Plain.{World, State, Regs, key-of, set-regs, failed, switched, paged, Guest, Space, at, put, enrolled, root-at, present, or-zero, place, page-in, right-in, map-word, leaf-mark, new-root, new-leaf, drop, write, names, wipe, cleared, crowded, rooted, rooted-by, roomy, leafed, filled, free-count, mapping-at}
-use Rattle.model.proofs.Sound.{Lawful, In, Started, Sound, Allowed, Role, idle, is-root, is-leaf}
-use Rattle.model.proofs.Basics.{on, test, clash, none-some, idle-root, idle-leaf, root-leaf, by-option, by-test, at-same, at-other, at-is, put-same, put-page, put-place, taken, taken-self}
-use Rattle.model.proofs.Keeps.{page-leaf, one-pool, named, unnamed-root, names-in, root-listed}
+use Rattle.model.proofs.Plain.{World, State, key-of, at, put, enrolled, root-at, present, place, page-in, leaf-mark, new-root, new-leaf, drop, write, names, wipe, rooted, free-count, mapping-at}
+use Rattle.model.proofs.Sound.{Lawful, Role, is-root, is-leaf}
+use Rattle.model.proofs.Basics.{on, test, clash, root-leaf, by-option, by-test, at-other, at-is, put-same, put-page, put-place, taken}
+use Rattle.model.proofs.Keeps.{page-leaf, named, unnamed-root, names-in, root-listed}
 use Rattle.model.proofs.Filling.{Good}
 use Rattle.model.proofs.Keeping.{some-right, no-pool-out}
 use Rattle.model.proofs.Counts.{count-all, count-same, count-take}
-use Rattle.model.proofs.View.{Given, Alone, given-of, alone, leaf-at, own-drop, own-root, own-leaf, own-map, own-wipe}
+use Rattle.model.proofs.View.{Alone, given-of, alone, leaf-at, own-drop, own-root, own-leaf, own-map, own-wipe}
 
 pub alone-path : (a b : Alone) → a .regs ≡ b .regs → ((k : ℕ) → a .rooted k ≡ b .rooted k) → ((k n : ℕ) → a .leaf k n ≡ b .leaf k n) → ((k n j : ℕ) → a .map k n j ≡ b .map k n j) →
     a .number ≡ b .number → a .free ≡ b .free → ((p k : ℕ) → a .words p k ≡ b .words p k) → a ≡ b

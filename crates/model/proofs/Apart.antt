@@ -1,50 +1,40 @@
 -- Two shifts that agree in a guest's list answer it alike.
-use mathlib.Core.Path.{_≡_, refl, sym, ap, ap₂, subst, _∙_, fun-ext}
-use mathlib.Core.Bool.{Bool, true, false, cond, not, _&&_, _||_, Bool·not-not}
-use mathlib.Core.List.{List, [], _∷_}
-use Prim.Native.Nat.{ℕ, suc, _+_, _*_, _/_, _%_, _≤_, _<_, _-_}
+use mathlib.Core.Path.{_≡_, refl, sym, ap, ap₂, subst, _∙_}
+use mathlib.Core.Bool.{true, false, cond, not, _&&_}
+use mathlib.Core.List.{List, _∷_}
+use Prim.Native.Nat.{ℕ, _/_, _%_, _≤_, _<_}
 use lib.Dec.{eqb, leb, ltb}
 use Rattle.std.specs.declared.option.Option.{Option}
-use Rattle.std.specs.declared.option.Option.the-variants.{None, Some}
-use Rattle.platform.specs.Lists.{count, member}
+use Rattle.std.specs.declared.option.Option.the-variants.{None}
+use Rattle.platform.specs.Lists.{count}
 use Rattle.std.specs.Options.{isSome}
-use Rattle.std.specs.declared.result.Result.{Result}
-use Rattle.std.specs.declared.result.Result.the-variants.{Ok, Err}
-use Rattle.platform.specs.declared.access.Access.{Access}
-use Rattle.platform.specs.declared.refusal.Refusal.{Refusal}
-use Rattle.platform.specs.declared.refusal.Refusal.the-variants.{GuestOutOfRange, NotAdmitted, NoGuestRuns, Misaligned, NotMapped}
+use Rattle.platform.specs.declared.refusal.Refusal.the-variants.{NoGuestRuns}
 use Rattle.platform.specs.declared.right.Right.{Right}
-use Rattle.platform.specs.declared.right.Right.the-variants.{Nothing, Read, Write}
-use Rattle.platform.specs.Guests.{is-guest}
 use Rattle.platform.specs.Rights.{rank}
-use Rattle.walk.specs.declared.abort.Abort.{Abort}
-use Rattle.walk.specs.declared.mapping.Mapping.{Mapping}
 use Rattle.model.specs.declared.calls.Answer.{Answer}
-use Rattle.model.specs.declared.calls.Answer.the-variants.{Done, Refused, Mapped, Aborted, Loaded}
+use Rattle.model.specs.declared.calls.Answer.the-variants.{Refused}
 use Rattle.model.specs.declared.calls.Call.{Call}
 use Rattle.model.specs.declared.calls.Call.the-variants.{Schedule, Switch, PagingOn, PagingOff, Flush, FlushPage, Fault, Load, Store}
 use Rattle.model.specs.Fills.{Picks}
 use lib.ListN.{length}
-use native.Mathlib.Omega.{arith}
-use borrow.Author.Tests.{eqb-true, eqb-false, eq-eqb, ne-eqb, leb-true, le-leb, ltb-true}
+use borrow.Author.Tests.{eqb-true, eq-eqb, ne-eqb, leb-true, ltb-true}
 use Rattle.platform.specs.Windows.{Pane}
-use Rattle.model.specs.Histories.{or-else, is-done, faults-at, stores, page-in as page-answered, lies-in, is-one}
+use Rattle.model.specs.Histories.{or-else}
 use Rattle.model.specs.Shifts.{Turn, word-in}
 use Rattle.model.proofs.Cases.{and-not}
-use Rattle.model.proofs.Plain.{World, State, Regs, key-of, set-regs, failed, switched, paged, Guest, Space, at, put, enrolled, root-at, present, or-zero, place, page-in, right-in, map-word, leaf-mark, new-root, new-leaf, drop, write, names, wipe, cleared, crowded, rooted, rooted-by, roomy, leafed, filled, free-count, mapping-at, walked, fault-by, shadow, load-by, store-by, guest-step, scheduled, step, runs-next, is-write, by-running}
-use Rattle.model.proofs.Sound.{Lawful, In, Started, Sound, Allowed, Role, idle, is-root, is-leaf}
-use Rattle.model.proofs.Runs.{FairFault, Fair, FairFor, Past, Move, Event, next, Run, begun, called, given, faulted, stored, last-store, WordIs, is-schedule, call-of, news, turns, answers}
-use Rattle.model.proofs.Basics.{on, test, clash, none-some, idle-root, idle-leaf, root-leaf, by-option, by-test, at-same, at-other, at-is, put-same, put-page, put-place, taken, taken-self}
-use Rattle.model.proofs.Keeps.{page-leaf, one-pool}
-use Rattle.model.proofs.Filling.{Good, HasRoot, HasLeaf, good-drop, good-root, good-cleared, good-rooted, good-roomy, good-leafed}
-use Rattle.model.proofs.Keeping.{some-right, no-pool-out, map-allowed, granted-allowed, map-page, and-left, good-shift, good-start}
-use Rattle.model.proofs.Counts.{count-all, count-same, count-take}
-use Rattle.model.proofs.View.{Given, Alone, given-of, alone, leaf-at, own-drop, own-root, own-leaf, own-map, own-rooted, own-roomy, own-leafed, own-filled, own-sight, own-fault-by, own-write, own-shadow, own-step}
-use Rattle.model.proofs.Alone.{alone-path, leaf-same, map-same, readable-same, readable-out, alone-drop, alone-root, alone-leaf, alone-map, alone-wipe}
-use Rattle.model.proofs.Own.{alone-filled, alone-write, alone-regs, shadow-out, own, seen-by}
-use Rattle.model.proofs.Others.{OnlyOf, only-refl, only-drop, only-wipe, only-filled, alone-other, only-guest}
+use Rattle.model.proofs.Plain.{World, State, Regs, key-of, set-regs, failed, switched, paged, enrolled, root-at, page-in, map-word, drop, wipe, rooted, filled, free-count, mapping-at, shadow, guest-step, step, by-running}
+use Rattle.model.proofs.Sound.{Lawful, Started}
+use Rattle.model.proofs.Runs.{Fair, FairFor, Past, Move, Event, next, Run, begun, called, stored, is-schedule, call-of, news, turns, answers}
+use Rattle.model.proofs.Basics.{on, clash, by-option, by-test}
+use Rattle.model.proofs.Filling.{Good}
+use Rattle.model.proofs.Keeping.{and-left, good-shift}
+use Rattle.model.proofs.Counts.{count-all, count-same}
+use Rattle.model.proofs.View.{Given, Alone, given-of, alone, leaf-at, own-step}
+use Rattle.model.proofs.Alone.{alone-path, leaf-same, map-same, readable-same, readable-out}
+use Rattle.model.proofs.Own.{alone-write, shadow-out, own, seen-by}
+use Rattle.model.proofs.Others.{only-drop, only-wipe, only-filled, alone-other, only-guest}
 use Rattle.model.proofs.Cases.{case-schedule, case-switch, case-on, case-off, case-status, case-flush, case-page, case-fault, case-load, case-store}
-use Rattle.model.proofs.Link.{Linked, link-shift, split-va}
+use Rattle.model.proofs.Link.{Linked, link-shift}
 use Rattle.model.proofs.Words.{Put, same, fresh, puts}
 use Rattle.model.proofs.View.{own-news, own-run, or-word}
 

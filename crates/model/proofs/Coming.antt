@@ -1,41 +1,30 @@
 -- A shift is a run of the plain board.
 use mathlib.Core.Path.{_≡_, refl, sym, ap, ap₂, subst, _∙_}
 use mathlib.Core.Bool.{Bool, true, false, cond, _&&_}
-use mathlib.Core.List.{List, [], _∷_, map}
-use Prim.Native.Nat.{ℕ, suc, _≤_, _<_}
+use mathlib.Core.List.{_∷_, map}
+use Prim.Native.Nat.{ℕ, suc}
 use lib.Dec.{eqb, ltb}
-use lib.ListN.{length}
-use native.Mathlib.Omega.{arith}
 use Rattle.std.proofs.shelf.Tests.{ltb-true}
-use Rattle.std.specs.declared.option.Option.{Option}
-use Rattle.std.specs.declared.option.Option.the-variants.{None, Some}
 use Rattle.std.specs.Options.{valueOr}
-use Rattle.platform.specs.declared.right.Right.{Right}
-use Rattle.platform.specs.declared.right.Right.the-variants.{Nothing, Write}
-use Rattle.platform.specs.Guests.{is-guest}
-use Rattle.platform.specs.Memories.{Mem, inside}
-use Rattle.walk.specs.declared.mapping.Paging.{Paging}
 use Rattle.walk.specs.declared.mapping.Paging.the-variants.{Off, On}
 use Rattle.model.specs.declared.calls.Answer.{Answer}
 use Rattle.model.specs.declared.calls.Call.{Call}
 use Rattle.model.specs.Boards.{Board, word-at}
 use Rattle.model.specs.Boards as board
 use Rattle.model.specs.Fills.{Picks}
-use Rattle.model.specs.Steps.{Steps}
 use Rattle.model.specs.Steps as steps
-use Rattle.model.specs.Starts.{Started, new-guest}
+use Rattle.model.specs.Starts.{Started}
 use Rattle.model.specs.Starts as starts
-use Rattle.model.specs.Histories.{Event, History, or-else, is-done, scheduled, paging-set, base-set, stores, page-in, is-one, runs, paging-of, base-of, key-in}
+use Rattle.model.specs.Histories.{Event, History, or-else, is-done, scheduled, paging-set, base-set, page-in, is-one, runs, paging-of, base-of, key-in}
 use Rattle.model.specs.Shifts.{Shift, begun, called}
 use Rattle.model.proofs.Plain.{World, State, Guest, Regs, key-of, step, enrolled}
 use Rattle.model.proofs.Sound.{Lawful}
 use Rattle.model.proofs.Sound as sound
-use Rattle.model.proofs.Runs.{Past, Move, next, Run}
+use Rattle.model.proofs.Runs.{Past, next, Run}
 use Rattle.model.proofs.Runs as plain-runs
-use Rattle.model.proofs.Basics.{test, by-test, by-option, clash, none-some}
+use Rattle.model.proofs.Basics.{by-test, by-option, clash, none-some}
 use Rattle.model.proofs.Keeping.{good-start}
-use Rattle.model.proofs.Abstract.{key-number, plain-space, plain-regs, plain-guest, who, plain, world}
-use Rattle.model.proofs.Dropping.{Tied}
+use Rattle.model.proofs.Abstract.{key-number, plain-space, plain-regs, who, plain, world}
 use Rattle.model.proofs.Stepping.{Steady, Stepped, stepped}
 use Rattle.model.proofs.Telling.{two, two-set, Tells, tells}
 use Rattle.model.proofs.Logs.{log-of, Told, AllTold}
@@ -138,9 +127,9 @@ module _ (start : Board) (h : History) (b : Board) (C : Came start h b) (c : Cal
       let x = s .guest g .regs in
       ap (λ (t : State). two (t .guest g .regs)) (did .same)
       ∙ by-option (λ o. runs h ≡ o → two (step (world b) q s c .0 .guest g .regs) ≡ cond (is-done (steps.step b c q .answer) && is-one o g) (two-set c x) (two x)) (runs h)
-        (λ e d. told-by g .idle (runs-same ∙ ap who d) ∙ sym (by-test (λ t. cond (t && false) (two-set c x) (two x) ≡ two x) (is-done (steps.step b c q .answer)) (λ t. refl) (λ t. refl)))
-        (λ r e d. told-by g .set ∙ ap₂ (λ (a : Answer) (k : ℕ). cond (is-done a && eqb k g) (two-set c x) (two x)) (sym (did .says)) (runs-same ∙ ap who d))
-        refl
+      (λ e d. told-by g .idle (runs-same ∙ ap who d) ∙ sym (by-test (λ t. cond (t && false) (two-set c x) (two x) ≡ two x) (is-done (steps.step b c q .answer)) (λ t. refl) (λ t. refl)))
+      (λ r e d. told-by g .set ∙ ap₂ (λ (a : Answer) (k : ℕ). cond (is-done a && eqb k g) (two-set c x) (two x)) (sym (did .says)) (runs-same ∙ ap who d))
+      refl
       ∙ two-next h event g x (C .regs g)
 
   log-after : _≡_ {A = Past} (next (world start) (record { now = s; log = log-of h }) (record { call = c; picks = q })) (record { now = plain (steps.step b c q .after); log = log-of (event ∷ h) })

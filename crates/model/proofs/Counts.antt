@@ -1,15 +1,15 @@
 -- How many pages are free.
-use mathlib.Core.Path.{_≡_, refl, sym, ap, ap₂, subst, _∙_}
-use mathlib.Core.Bool.{Bool, true, false, cond, not, _&&_, _||_}
+use mathlib.Core.Path.{_≡_, refl, sym}
+use mathlib.Core.Bool.{Bool, true, false}
 use mathlib.Core.List.{List, [], _∷_}
-use Prim.Native.Nat.{ℕ, suc, _+_, _-_, _≤_}
+use Prim.Native.Nat.{ℕ, suc, _-_}
 use lib.Dec.{eqb}
 use lib.ListN.{length}
 use native.Mathlib.Omega.{arith}
 use borrow.Author.Tests.{eqb-true, eqb-false, eq-eqb, ne-eqb}
 use Rattle.platform.specs.Lists.{count, member}
 use Rattle.model.proofs.Plain.{at}
-use Rattle.model.proofs.Basics.{test, by-test, on, at-same, at-other}
+use Rattle.model.proofs.Basics.{test}
 
 -- how often a number stands in a list
 abbrev times : ℕ → List ℕ → ℕ

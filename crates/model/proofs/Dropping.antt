@@ -1,11 +1,11 @@
 -- A drop on a board is a drop on the plain board.
-use mathlib.Core.Path.{_≡_, refl, sym, ap, ap₂, subst, _∙_}
-use mathlib.Core.Bool.{Bool, true, false, cond, not, _&&_, _||_}
-use mathlib.Core.List.{List, [], _∷_, map}
+use mathlib.Core.Path.{_≡_, refl, sym, ap, _∙_}
+use mathlib.Core.Bool.{Bool, true, false, cond, not, _&&_}
+use mathlib.Core.List.{List, []}
 use Prim.Native.Nat.{ℕ}
 use lib.Dec.{eqb}
 use borrow.Author.Needs.{needs}
-use borrow.Author.Tests.{eqb-true, eqb-false, eq-eqb, ne-eqb}
+use borrow.Author.Tests.{eqb-true}
 use Rattle.std.specs.Results.{isOk}
 use Rattle.platform.specs.Books.{Book}
 use Rattle.platform.specs.Guests.{is-guest}
@@ -13,12 +13,11 @@ use Rattle.platform.specs.Keepers.{give-answer}
 use Rattle.platform.specs.Lists.{member}
 use Rattle.model.specs.Boards.{Board, word-at, with-spaces}
 use Rattle.model.specs.Boards as board
-use Rattle.model.specs.Fills.{drop-pages, dropped}
-use Rattle.model.proofs.Plain.{World, State, enrolled, at, drop}
-use Rattle.model.proofs.Sound.{Lawful, Sound}
-use Rattle.model.proofs.Basics.{test, by-test, clash}
+use Rattle.model.specs.Fills.{dropped}
+use Rattle.model.proofs.Plain.{World, enrolled, at, drop}
+use Rattle.model.proofs.Basics.{test, by-test}
 use Rattle.model.proofs.Filling.{Good}
-use Rattle.model.proofs.Abstract.{plain-guest, who, plain, world, state-path, Drops, drop-all}
+use Rattle.model.proofs.Abstract.{plain-guest, who, plain, world, state-path, drop-all}
 
 -- each guest's table pages are those that it has enrolled
 abbrev pub Tied : Board → Type 0

@@ -1,39 +1,31 @@
 -- Filling the tables of a board is filling those of the plain board, and no page is refused.
 use mathlib.Core.Path.{_≡_, refl, sym, ap, ap₂, subst, _∙_}
-use mathlib.Core.Bool.{Bool, true, false, cond, not, _&&_, _||_}
-use mathlib.Core.List.{List, [], _∷_, map}
-use Prim.Native.Nat.{ℕ, suc, _+_, _*_, _/_, _%_, _≤_, _<_}
-use lib.Dec.{eqb, leb, ltb, lit<}
+use mathlib.Core.Bool.{Bool, true, false, cond, _&&_, _||_}
+use mathlib.Core.List.{[]}
+use Prim.Native.Nat.{ℕ, _≤_, _<_}
+use lib.Dec.{eqb, leb, lit<}
 use lib.ListN.{length}
 use native.Mathlib.Omega.{arith}
-use borrow.Author.Needs.{needs}
-use borrow.Author.Tests.{eqb-true, eqb-false, eq-eqb, ne-eqb, leb-false}
+use borrow.Author.Tests.{eqb-true, eqb-false, eq-eqb, leb-false}
 use Rattle.std.proofs.shelf.Tests.{lt-ltb}
-use Rattle.std.specs.declared.option.Option.{Option}
 use Rattle.std.specs.declared.option.Option.the-variants.{None, Some}
-use Rattle.std.specs.declared.result.Result.{Result}
-use Rattle.std.specs.declared.result.Result.the-variants.{Ok, Err}
-use Rattle.platform.specs.declared.refusal.Refusal.{Refusal}
 use Rattle.platform.specs.Guests.{is-guest}
 use Rattle.platform.specs.Keepers.{take-refusal}
-use Rattle.platform.specs.Lists.{member}
-use Rattle.platform.specs.Memories.{Mem, inside, written}
-use Rattle.descriptor.specs.Addresses.{first-index, second-index}
+use Rattle.platform.specs.Memories.{inside, written}
 use Rattle.descriptor.specs.Entries.{table-page}
 use Rattle.model.specs.Boards.{Board, word-at, with-spaces, present-root}
 use Rattle.model.specs.Boards as board
-use Rattle.model.specs.Fills.{Reached, reached, and-then, going-on, Picks, root-taken, take-root, leaf-taken, none-free, make-room, dropped, MayTake, FairRoot, FairRoom, FairLeaf, FairFill, Where, WhereFound}
+use Rattle.model.specs.Fills.{Reached, reached, and-then, Picks, take-root, leaf-taken, make-room, dropped, MayTake, FairRoot, FairRoom, FairLeaf, Where}
 use Rattle.model.specs.Fills as fills
-use Rattle.model.proofs.Plain.{World, State, enrolled, at, put, free-count, leaf-mark, page-in, new-root, new-leaf, drop, write, present, or-zero, place, crowded, cleared, rooted, rooted-by, roomy, leafed, filled}
-use Rattle.model.proofs.Sound.{Lawful, Sound}
-use Rattle.model.proofs.Runs.{FairFault}
-use Rattle.model.proofs.Basics.{test, by-test, by-option, clash, none-some, some-inj}
+use Rattle.model.proofs.Plain.{World, State, enrolled, at, free-count, leaf-mark, page-in, new-root, new-leaf, drop, write, present, or-zero, place, crowded, cleared, rooted, rooted-by, roomy, leafed}
+use Rattle.model.proofs.Sound.{Lawful}
+use Rattle.model.proofs.Basics.{by-test, by-option, clash, none-some}
 use Rattle.model.proofs.Keeps.{page-leaf}
-use Rattle.model.proofs.Filling.{Good, HasRoot, HasLeaf, present-new, place-new, good-drop, good-cleared, good-rooted, good-roomy, good-leafed}
+use Rattle.model.proofs.Filling.{Good, HasLeaf, present-new, place-new, good-rooted, good-roomy, good-leafed}
 use Rattle.model.proofs.Progress.{drop-some, cleared-some, leaf-some}
-use Rattle.model.proofs.Abstract.{plain-guest, plain, world, length-same}
+use Rattle.model.proofs.Abstract.{plain, world, length-same}
 use Rattle.model.proofs.Dropping.{Tied, plain-drop, world-drop, tied-drop, running-drop}
-use Rattle.model.proofs.Taking.{present-same, none-same, not-refused, Kept, kept-refl, kept-trans, root-found, plain-root, kept-root, mark-same, plain-leaf, kept-leaf, plain-write, kept-write}
+use Rattle.model.proofs.Taking.{present-same, none-same, not-refused, Kept, kept-refl, kept-trans, root-found, plain-root, kept-root, plain-leaf, kept-leaf, plain-write, kept-write}
 
 -- what is known of a board between two steps of a fault of guest g
 pub record Fit (b : Board) (g : ℕ) : Type 0 where

@@ -1,13 +1,11 @@
 -- A guest's table pages: each is free, a root or a leaf; and what a drop does to them.
-use mathlib.Core.Path.{_≡_, refl, sym, ap, ap₂, subst, _∙_}
-use mathlib.Core.Bool.{Bool, true, false, cond, _&&_}
+use mathlib.Core.Path.{_≡_, refl, sym, ap, subst, _∙_}
+use mathlib.Core.Bool.{Bool, true, false, cond}
 use mathlib.Core.List.{List, [], _∷_, map}
-use mathlib.Core.Logic.{_⊎_, inl, inr}
-use Prim.Native.Nat.{ℕ, zero, suc, _≤_, _<_}
-use lib.Dec.{eqb}
+use mathlib.Core.Logic.{inl, inr}
+use Prim.Native.Nat.{ℕ, zero, suc}
 use native.Mathlib.Omega.{arith}
-use borrow.Author.Tests.{eq-eqb, ne-eqb}
-use Rattle.std.specs.declared.option.Option.{Option}
+use borrow.Author.Tests.{eq-eqb}
 use Rattle.std.specs.declared.option.Option.the-variants.{None, Some}
 use Rattle.platform.specs.Guests.{is-guest}
 use Rattle.descriptor.specs.Entries.{table-page}
@@ -20,15 +18,15 @@ use Rattle.model.specs.Starts as starts
 use Rattle.model.specs.Tables.{RootOf, LeafOf, Use, free, root, leaf, Recorded, EachPageOnce, TablePagesAreEachOnce, InUse, DropsTables, DropsExactlyTables}
 use Rattle.model.specs.Tables as tables
 use Rattle.model.proofs.Plain.{World, State, Space, enrolled, page-in, drop}
-use Rattle.model.proofs.Sound.{Lawful, Sound, In, Role, is-root, is-leaf, Used}
+use Rattle.model.proofs.Sound.{Sound, In, Role, is-root, is-leaf, Used}
 use Rattle.model.proofs.Sound as sound
 use Rattle.model.proofs.Basics.{test, clash, none-some, some-inj, root-leaf, at-other}
 use Rattle.model.proofs.Drops.{drops-tables}
 use Rattle.model.proofs.Drops as drops
-use Rattle.model.proofs.Abstract.{key-number, plain-space, root-same, plain, world, Drops}
+use Rattle.model.proofs.Abstract.{key-number, plain-space, root-same, plain, world}
 use Rattle.model.proofs.Dropping.{plain-drop}
 use Rattle.model.proofs.Stepping.{Steady}
-use Rattle.model.proofs.Coming.{Came, came}
+use Rattle.model.proofs.Coming.{came}
 use Rattle.model.proofs.Promises.{table-in}
 
 -- keys and their numbers

@@ -3,14 +3,13 @@
 use mathlib.Core.Bool.{Bool, true, false, cond, not, _&&_, _||_}
 use mathlib.Core.List.{List, [], _∷_}
 use Prim.Native.Nat.{ℕ, zero, suc, _+_, _*_, _/_, _%_}
-use lib.Dec.{eqb, leb, ltb}
+use lib.Dec.{eqb, leb}
 use lib.ListN.{length}
 use Rattle.std.specs.declared.option.Option.{Option}
 use Rattle.std.specs.declared.option.Option.the-variants.{None, Some}
 use Rattle.std.specs.declared.result.Result.{Result}
 use Rattle.std.specs.declared.result.Result.the-variants.{Ok, Err}
 use Rattle.platform.specs.declared.access.Access.{Access}
-use Rattle.platform.specs.declared.refusal.Refusal.{Refusal}
 use Rattle.platform.specs.declared.refusal.Refusal.the-variants.{GuestOutOfRange, NotAdmitted, NoGuestRuns, Misaligned, NotMapped}
 use Rattle.platform.specs.declared.right.Right.{Right}
 use Rattle.platform.specs.declared.right.Right.the-variants.{Nothing, Read, Write}

@@ -1,11 +1,11 @@
 -- A page is free wherever a fault takes one: two enrolled pages are enough.
 use mathlib.Core.Path.{_≡_, refl, ap, ap₂}
-use mathlib.Core.Bool.{Bool, true, false, cond, _&&_, _||_}
-use Prim.Native.Nat.{ℕ, _≤_, _-_}
-use lib.Dec.{eqb, leb}
+use mathlib.Core.Bool.{true, false, cond, _&&_}
+use Prim.Native.Nat.{ℕ, _≤_}
+use lib.Dec.{eqb}
 use lib.ListN.{length}
 use native.Mathlib.Omega.{arith}
-use borrow.Author.Tests.{eqb-true, eqb-false, eq-eqb}
+use borrow.Author.Tests.{eqb-false, eq-eqb}
 use Rattle.model.proofs.Plain.{World, State, place, free-count, drop, new-root, cleared, crowded, roomy}
 use Rattle.model.proofs.Sound.{Lawful}
 use Rattle.model.proofs.Basics.{by-test, clash}

@@ -2,13 +2,12 @@
 use mathlib.Core.Path.{_≡_, refl, sym, ap, ap₂, subst, _∙_}
 use mathlib.Core.Bool.{Bool, true, false, cond, _||_}
 use mathlib.Core.List.{List, [], _∷_}
-use Prim.Native.Nat.{ℕ, _+_, _*_, _/_, _%_, _≤_}
+use Prim.Native.Nat.{ℕ, _+_, _/_, _%_, _≤_}
 use lib.Dec.{eqb}
 use native.Mathlib.Omega.{arith}
 use borrow.Author.Needs.{needs}
-use borrow.Author.Tests.{eqb-false, eq-eqb, ne-eqb}
+use borrow.Author.Tests.{eq-eqb, ne-eqb}
 use Rattle.std.specs.Options.{isSome}
-use Rattle.std.specs.declared.option.Option.{Option}
 use Rattle.std.specs.declared.option.Option.the-variants.{None, Some}
 use Rattle.std.specs.declared.result.Result.{Result}
 use Rattle.std.specs.declared.result.Result.the-variants.{Ok, Err}
@@ -31,11 +30,11 @@ use Rattle.model.specs.declared.calls.Answer.the-variants.{Done, Refused, Mapp
 use Rattle.model.specs.declared.calls.Call.{Call}
 use Rattle.model.specs.declared.calls.Call.the-variants.{Schedule, Switch, PagingOn, PagingOff, Flush, FlushPage, Fault, Load, Store}
 use Rattle.model.specs.Boards.{Board}
-use Rattle.model.specs.Fills.{Reached, Picks, MayTake, WhereFound, FairRoom, FairLeaf, FairFill, Where, make-room, dropped, rooted, roomy}
+use Rattle.model.specs.Fills.{Picks, MayTake, WhereFound, FairRoom, FairLeaf, FairFill, Where, make-room, dropped, rooted, roomy}
 use Rattle.model.specs.Steps as steps
 use Rattle.model.specs.Histories.{runs}
-use Rattle.model.specs.Tables.{Serves, NoFaultFailsForWantOfAPage, ShadowReadsBack}
-use Rattle.model.proofs.Plain.{World, State, Regs, key-of, present, root-at, mapping-at, page-in, right-in, map-word, filled, walked, fault-by, shadow, step}
+use Rattle.model.specs.Tables.{NoFaultFailsForWantOfAPage, ShadowReadsBack}
+use Rattle.model.proofs.Plain.{World, State, Regs, key-of, root-at, mapping-at, page-in, right-in, map-word, filled, walked, fault-by, shadow, step}
 use Rattle.model.proofs.Runs.{FairFault}
 use Rattle.model.proofs.Basics.{by-test, by-option, by-result, clash}
 use Rattle.model.proofs.Filling.{Good}
@@ -43,12 +42,12 @@ use Rattle.model.proofs.Keeping.{map-page, map-right, granted-some}
 use Rattle.model.proofs.Sound.{Lawful}
 use Rattle.model.proofs.View.{Alone, given-of, alone}
 use Rattle.model.proofs.Own.{alone-filled}
-use Rattle.model.proofs.Link.{Fills, exact, left, filled-map}
+use Rattle.model.proofs.Link.{exact, left, filled-map}
 use Rattle.model.proofs.Abstract.{who, plain, world}
 use Rattle.model.proofs.Reading.{Says, nothing, maps, shadow-says}
-use Rattle.model.proofs.Stepping.{Steady, Stepped, stepped}
+use Rattle.model.proofs.Stepping.{Steady, stepped}
 use Rattle.model.proofs.Telling.{regs-filled}
-use Rattle.model.proofs.Coming.{Came, came}
+use Rattle.model.proofs.Coming.{came}
 
 -- a keeper that gives a page has one that is free
 found : (f : ℕ → Bool) (l : List ℕ) → ¬ (count f l ≡ 0) → (p : ℕ) × ((member p l ≡ true) × (f p ≡ true))

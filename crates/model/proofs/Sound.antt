@@ -1,18 +1,17 @@
 -- What holds of a plain board between two calls.
 use mathlib.Core.Path.{_≡_}
-use mathlib.Core.Bool.{Bool, true, false, cond}
+use mathlib.Core.Bool.{true, false}
 use mathlib.Core.List.{List, [], _∷_}
 use mathlib.Core.Logic.{_⊎_}
-use Prim.Native.Nat.{ℕ, suc, _≤_, _<_}
+use Prim.Native.Nat.{ℕ, _≤_, _<_}
 use lib.Dec.{eqb}
 use lib.ListN.{length}
-use Rattle.std.specs.declared.option.Option.{Option}
-use Rattle.std.specs.declared.option.Option.the-variants.{None, Some}
+use Rattle.std.specs.declared.option.Option.the-variants.{Some}
 use Rattle.platform.specs.declared.right.Right.the-variants.{Nothing, Write}
 use Rattle.platform.specs.Guests.{is-guest}
 use Rattle.platform.specs.Lists.{count}
 use Rattle.platform.specs.Rights.{rank}
-use Rattle.model.proofs.Plain.{World, State, Guest, Regs, Space, enrolled, root-at, leaf-mark, map-word, page-in, right-in}
+use Rattle.model.proofs.Plain.{World, State, Regs, Space, enrolled, root-at, leaf-mark, map-word, page-in, right-in}
 
 -- the laws of the parts, and of the enrolled pages
 pub record Lawful (w : World) : Type 0 where

@@ -1,30 +1,27 @@
 -- A root and a leaf taken on a board, and a word written, are those of the plain board.
-use mathlib.Core.Path.{_≡_, refl, sym, ap, ap₂, subst, _∙_}
-use mathlib.Core.Bool.{Bool, true, false, cond, not, _&&_, _||_}
-use mathlib.Core.List.{List, [], _∷_, map}
-use Prim.Native.Nat.{ℕ, suc, _+_, _*_, _/_, _%_, _≤_, _<_}
-use lib.Dec.{eqb, leb, ltb}
+use mathlib.Core.Path.{_≡_, refl, sym, ap, _∙_}
+use mathlib.Core.Bool.{Bool, true, false, cond, _&&_}
+use mathlib.Core.List.{_∷_, map}
+use Prim.Native.Nat.{ℕ, _<_}
+use lib.Dec.{eqb, ltb}
 use lib.ListN.{length}
 use native.Mathlib.Omega.{arith}
 use borrow.Author.Needs.{needs}
-use borrow.Author.Tests.{eqb-true, eqb-false, eq-eqb, ne-eqb}
+use borrow.Author.Tests.{eqb-true, ne-eqb}
 use Rattle.std.proofs.shelf.Tests.{lt-ltb}
-use Rattle.std.specs.declared.option.Option.{Option}
-use Rattle.std.specs.declared.option.Option.the-variants.{None, Some}
-use Rattle.std.specs.declared.result.Result.the-variants.{Ok, Err}
+use Rattle.std.specs.declared.option.Option.the-variants.{None}
+use Rattle.std.specs.declared.result.Result.the-variants.{Ok}
 use Rattle.platform.specs.Guests.{is-guest}
 use Rattle.platform.specs.Keepers.{marked, take-refusal}
 use Rattle.platform.specs.Keepers as keepers
-use Rattle.platform.specs.Lists.{member}
 use Rattle.platform.specs.Memories.{Mem, inside, written}
 use Rattle.descriptor.specs.Shadow.{root-word}
 use Rattle.model.specs.Boards.{Board, word-at, with-spaces, with-root}
 use Rattle.model.specs.Boards as board
-use Rattle.model.specs.Fills.{Reached, root-taken, take-root, leaf-taken, none-free}
-use Rattle.model.proofs.Plain.{World, State, enrolled, at, put, free-count, leaf-mark, new-root, new-leaf, write, present, key-of, root-at}
-use Rattle.model.proofs.Sound.{Lawful, Sound}
-use Rattle.model.proofs.Basics.{test, by-test, clash}
-use Rattle.model.proofs.Abstract.{plain-space, plain-guest, who, plain, world, state-path, key-number, key-there, root-same, word-written, has-written}
+use Rattle.model.specs.Fills.{root-taken, take-root, none-free}
+use Rattle.model.proofs.Plain.{at, put, free-count, leaf-mark, new-root, new-leaf, write, present, key-of, root-at}
+use Rattle.model.proofs.Basics.{by-test}
+use Rattle.model.proofs.Abstract.{plain-space, plain-guest, plain, world, state-path, key-there, root-same, word-written, has-written}
 use Rattle.model.proofs.Dropping.{Tied, world-path, guest-changed, admitted-kept, tables-kept}
 
 -- the present root

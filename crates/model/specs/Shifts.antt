@@ -2,24 +2,20 @@
 use mathlib.Core.Path.{_≡_}
 use mathlib.Core.Bool.{Bool, true, false, cond, not, _&&_}
 use mathlib.Core.List.{List, [], _∷_}
-use mathlib.Core.Logic.{_⊎_}
 use Prim.Native.Nat.{ℕ, _≤_, _<_}
-use lib.Dec.{eqb, leb}
+use lib.Dec.{leb}
 use lib.ListN.{length}
 use Rattle.std.specs.Options.{isSome}
 use Rattle.std.specs.declared.option.Option.{Option}
 use Rattle.std.specs.declared.option.Option.the-variants.{None, Some}
-use Rattle.platform.specs.declared.access.Access.{Access}
-use Rattle.platform.specs.declared.refusal.Refusal.{Refusal}
 use Rattle.platform.specs.declared.right.Right.{Right}
-use Rattle.platform.specs.declared.right.Right.the-variants.{Nothing}
 use Rattle.platform.specs.Rights.{rank}
 use Rattle.descriptor.specs.declared.entry.SecondLevel.{SecondLevel}
 use Rattle.descriptor.specs.Entries.{table-page, second-level}
 use Rattle.walk.specs.declared.mapping.Paging.{Paging}
 use Rattle.model.specs.declared.calls.Answer.{Answer}
 use Rattle.model.specs.declared.calls.Call.{Call}
-use Rattle.model.specs.Boards.{Space, Board, root-at, word-at}
+use Rattle.model.specs.Boards.{Board, root-at, word-at}
 use Rattle.model.specs.Steps.{Steps}
 use Rattle.model.specs.Starts.{Started, enrolled}
 use Rattle.model.specs.Histories.{Event, History, or-else, scheduled, runs, is-one, stored, last-store}
