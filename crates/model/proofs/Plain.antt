@@ -1,5 +1,5 @@
 -- The board on plain functions and numbers, on which the promises are proved: no guard that never fails is in it,
--- and a key is a number. `Bridge` shows that a board that comes from a start does what this one does.
+-- and a key is a number. `Stepping` and `Coming` show that a board that comes from a start does what this one does.
 use mathlib.Core.Bool.{Bool, true, false, cond, not, _&&_, _||_}
 use mathlib.Core.List.{List, [], _∷_}
 use Prim.Native.Nat.{ℕ, zero, suc, _+_, _*_, _/_, _%_}
