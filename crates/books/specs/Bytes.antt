@@ -4,11 +4,10 @@ use Rattle.platform.specs.declared.right.Right.{Right}
 use Rattle.platform.specs.declared.right.Right.TheVariants.{Nothing, Read, Write}
 use Rattle.platform.specs.Guests.{is_guest}
 use Rattle.platform.specs.Books.{Book}
-use Rattle.platform.specs.Units.{book_pages}
 
 -- the byte of page p: 0 where there is none, and from page 65,536 up
 abbrev pub byte_at : List ℕ → ℕ → ℕ
-byte_at xs p = cond (nat_lt p book_pages) (slice_index xs p) 0
+byte_at xs p = cond (nat_lt p 65536) (slice_index xs p) 0
 
 -- with a high half of 1 to 8 that guest has write, and the guest of the low half, if another, has read
 abbrev pub byte_right : ℕ → ℕ → Right

@@ -4,7 +4,7 @@ use mathlib.Core.Path.{fun_ext}
 use lib.ListN.{length-replicate}
 use Rattle.std.proofs.lemmas.Bool.{cases_lt}
 use Rattle.std.proofs.lemmas.List.{at_drop_more, get_or-replicate, get_or_past}
-use Rattle.platform.specs.Memories.{Mem, memory_of, put}
+use Rattle.platform.specs.Memories.{Mem, put}
 use Rattle.platform.proofs.Lists.{any_push}
 use Rattle.memories.specs.declared.listed.ListedPage.{ListedPage}
 use Rattle.memories.specs.Listed.{lists, words_of, place_of, found_at, listed, Catalog, with_blank, with_blanks}
@@ -73,10 +73,10 @@ getD_zeros n k = search (rules, get_or-replicate, get_or_past, length-replicate,
 
 pub listed_blank : (xs : List ListedPage) (p : ℕ)
     → listed (xs ++ record { number = p; words = replicate 1024 0 } ∷ [])
-    ≡ memory_of (λ q. eqb p q || lists xs q) (λ q k. cond (lists xs q) (get_or (words_of xs q) k 0) 0)
+    ≡ record { has = λ q. eqb p q || lists xs q; word = λ q k. cond (lists xs q) (get_or (words_of xs q) k 0) 0 }
 listed_blank xs p =
     let y : ListedPage = record { number = p; words = replicate 1024 0 } in
-    same_mem (listed (xs ++ y ∷ [])) (memory_of (λ q. eqb p q || lists xs q) (λ q k. cond (lists xs q) (get_or (words_of xs q) k 0) 0))
+    same_mem (listed (xs ++ y ∷ [])) (record { has = λ q. eqb p q || lists xs q; word = λ q k. cond (lists xs q) (get_or (words_of xs q) k 0) 0 })
     (λ q. let h = any_push (λ x. eqb x.number q) xs y in search rules)
     (λ q k. let h = words_more xs q y in let z = getD_zeros 1024 k in search rules)
 

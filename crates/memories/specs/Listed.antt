@@ -5,7 +5,7 @@ use Rattle.platform.specs.declared.refusal.Refusal.TheVariants.{OutOfLimits, Tab
 use Rattle.platform.specs.declared.span.Span.{Span}
 use Rattle.platform.specs.Lists.{any, any_below}
 use Rattle.platform.specs.Spans.{fits_book}
-use Rattle.platform.specs.Memories.{Mem, memory_of, written}
+use Rattle.platform.specs.Memories.{Mem, written}
 use Rattle.memories.specs.declared.listed.ListedPage.{ListedPage}
 use Rattle.memories.specs.declared.listed.ListedPages.{ListedPages}
 
@@ -28,7 +28,7 @@ found_at xs p = cond (lists xs p) (Some (place_of xs p)) None
 
 -- the memory that a table of pages is
 abbrev pub listed : List ListedPage → Mem
-listed xs = memory_of (lists xs) (λ p k. slice_index (words_of xs p) k)
+listed xs = record { has = lists xs; word = λ p k. slice_index (words_of xs p) k }
 
 -- a memory of listed pages, and how many are listed
 pub record Catalog : Type 0 where
@@ -39,12 +39,12 @@ abbrev pub catalog : ListedPages → Catalog
 catalog s = record { mem = listed (vec_items s.pages); count = vec_len s.pages }
 
 abbrev pub empty : Catalog
-empty = record { mem = memory_of (λ _. false) (λ _ _. 0); count = 0 }
+empty = record { mem = record { has = λ _. false; word = λ _ _. 0 }; count = 0 }
 
 -- page p more: the words of every page that was not there are 0
 abbrev pub with_blank : Catalog → ℕ → Catalog
 with_blank c p = record {
-  mem = memory_of (λ q. (p == q) || c.mem.has q) (λ q k. cond (c.mem.has q) (c.mem.word q k) 0);
+  mem = record { has = λ q. (p == q) || c.mem.has q; word = λ q k. cond (c.mem.has q) (c.mem.word q k) 0 };
   count = c.count + 1;
 }
 

@@ -1,25 +1,24 @@
 -- A worked shift.
-use Rattle.std.specs.Prelude.{◌≡◌, ℕ, cond, ◌&&◌, ◌||◌, ltb, List, [], ◌∷◌, None, ◌==◌, nat_lt}
+use Rattle.std.specs.Prelude.{◌≡◌, ℕ, cond, ◌&&◌, ◌||◌, List, [], ◌∷◌, None, ◌==◌, nat_lt}
 use Rattle.platform.specs.declared.access.Access.{Access}
 use Rattle.platform.specs.declared.right.Right.{Right}
 use Rattle.platform.specs.declared.right.Right.TheVariants.{Nothing}
 use Rattle.platform.specs.Books.{Book}
-use Rattle.platform.specs.Keepers.{keep_of}
 use Rattle.platform.specs.Lists.{member}
-use Rattle.platform.specs.Memories.{Mem, memory_of}
-use Rattle.platform.specs.declared.abort.Abort.TheVariants.{External}
-use Rattle.platform.specs.declared.answer.Answer.{Answer}
-use Rattle.platform.specs.declared.answer.Answer.TheVariants.{Done, Mapped, Aborted, Loaded}
-use Rattle.platform.specs.declared.call.Call.{Call}
-use Rattle.platform.specs.declared.call.Call.TheVariants.{Schedule, PagingOn, Fault, Load, Store}
-use Rattle.model.specs.Boards.{Board, board_of}
+use Rattle.platform.specs.Memories.{Mem}
+use Rattle.walk.specs.declared.abort.Abort.TheVariants.{External}
+use Rattle.model.specs.declared.calls.Answer.{Answer}
+use Rattle.model.specs.declared.calls.Answer.TheVariants.{Done, Mapped, Aborted, Loaded}
+use Rattle.model.specs.declared.calls.Call.{Call}
+use Rattle.model.specs.declared.calls.Call.TheVariants.{Schedule, PagingOn, Fault, Load, Store}
+use Rattle.model.specs.Boards.{Board}
 use Rattle.model.specs.Fills.{Picks}
 use Rattle.model.specs.Steps.{Fair, step}
 use Rattle.model.specs.Starts.{Started, new_guest}
 
 -- pages 0 to 9 are there; guest 1's first-level table is in page 0, with a section at place 5 that begins at page 0
 abbrev pub words : Mem
-words = memory_of (λ p. ltb p 10) (λ p k. cond (p == 0 && k == 5) 0x00000C02 0)
+words = record { has = λ p. nat_lt p 10; word = λ p k. cond (p == 0 && k == 5) 0x00000C02 0 }
 
 -- guest 1 may write pages 0 to 3 and read page 4, which guest 2 may write; pages 8 and 9 are guest 1's pool, 6 and 7 guest 2's
 abbrev pub rights : Book
@@ -32,9 +31,14 @@ abbrev pub tables : ℕ → List ℕ
 tables g = cond (g == 1) (8 ∷ 9 ∷ []) (cond (g == 2) (6 ∷ 7 ∷ []) [])
 
 abbrev pub worked_start : Board
-worked_start =
-    board_of (record { first = 0; count = 12 }) words rights (keep_of (λ g p. member p (tables g)) (λ g p. member p (tables g)))
-    (λ g. new_guest (g == 1 || g == 2) (tables g)) None
+worked_start = record {
+  window = record { first = 0; count = 12 };
+  memory = words;
+  book = rights;
+  keeper = record { pages = tables; free = λ g p. member p (tables g) };
+  guest = λ g. new_guest (g == 1 || g == 2) (tables g);
+  running = None;
+}
 
 -- guest 1 faults for writing at an address in its section, stores and loads there, and faults for writing at an address whose
 -- page it may only read

@@ -1,25 +1,21 @@
--- Shifts, and what is promised of mappings and of words.
-use Rattle.std.specs.Prelude.{◌≡◌, ℕ, ◌<◌, ◌≤◌, true, false, List, [], ◌∷◌, ◌++◌, Some, None, Option, ◌≢◌}
-use Rattle.platform.specs.declared.answer.Answer.{Answer}
-use Rattle.platform.specs.declared.call.Call.{Call}
+-- Shifts, and what is promised of each.
+use Rattle.std.specs.Prelude.{◌≡◌, ℕ, ◌<◌, ◌≤◌, Bool, true, false, cond, not, ◌&&◌, List, [], ◌∷◌, length, is_some, Some, None, Option, ◌≢◌, nat_le}
 use Rattle.platform.specs.declared.right.Right.{Right}
 use Rattle.platform.specs.Rights.{rank}
-use Rattle.platform.specs.Units.{page_of, page_words}
 use Rattle.descriptor.specs.declared.entry.SecondLevel.{SecondLevel}
 use Rattle.descriptor.specs.Entries.{table_page, second_level}
-use Rattle.model.specs.Boards.{Space, Recorded, Board, word_at}
+use Rattle.walk.specs.declared.mapping.Paging.{Paging}
+use Rattle.model.specs.declared.calls.Answer.{Answer}
+use Rattle.model.specs.declared.calls.Call.{Call}
+use Rattle.model.specs.Boards.{Board, root_at, word_at}
 use Rattle.model.specs.Steps.{Steps}
 use Rattle.model.specs.Starts.{Started, enrolled}
-use Rattle.model.specs.Histories.{History, stores_at, Entry, Log, attributed, faulted, last_store}
+use Rattle.model.specs.Histories.{Event, History, or_else, scheduled, runs, is_one, stored, last_store}
 
 -- a board comes from a start by calls with their answers, for any list of calls and any choice of free pages
 pub data Shift (start : Board) : History → Board → Type 0 where
   begun : Shift start [] start
   called : {h : History} {b : Board} (c : Call) (a : Answer) (after : Board) → Shift start h b → Steps b c a after → Shift start (record { call = c; answer = a } ∷ h) after
-
--- of every start, every shift and the board that it leads to
-abbrev pub AfterEveryShift : (Board → History → Board → Type 0) → Type 0
-AfterEveryShift P = (start : Board) → Started start → (h : History) (b : Board) → Shift start h b → P start h b
 
 -- a word of a leaf, read as a second-level word, maps a page in no pool, on which the book gives guest g at least the mapping's right
 pub record WithinRights (b : Board) (g word : ℕ) : Type 0 where
@@ -29,38 +25,69 @@ pub record WithinRights (b : Board) (g word : ℕ) : Type 0 where
   pub in_no_pool : b.book.pool page ≡ 0
   pub by_book : rank right ≤ rank (b.book.right g page)
 
--- the leaf that place i of a space's root names
-abbrev pub leaf_at : Board → Space → ℕ → ℕ
-leaf_at b x i = table_page (word_at b.memory x.root i)
-
 -- every mapping under a recorded root stays within rights and off the pools: a root is recorded while a space has it,
 -- a leaf is named by a word other than 0 of a root, and a mapping is a word other than 0 of a leaf
 abbrev pub MappingsStayWithinRights : Type 0
 MappingsStayWithinRights =
-    AfterEveryShift (λ start h b. (g : ℕ) (x : Space) (i j : ℕ) → Recorded x (b.guest g).spaces
-    → (word_at b.memory x.root i ≢ 0)
-    → (word_at b.memory (leaf_at b x i) j ≢ 0)
-    → WithinRights b g (word_at b.memory (leaf_at b x i) j))
+    (start : Board) → Started start → (h : History) (b : Board) → Shift start h b
+    → (g : ℕ) (key : Paging) (root i j : ℕ) → root_at key (b.guest g).spaces ≡ Some root
+    → (word_at b.memory root i ≢ 0)
+    → (word_at b.memory (table_page (word_at b.memory root i)) j ≢ 0)
+    → WithinRights b g (word_at b.memory (table_page (word_at b.memory root i)) j)
 
 -- a word is the last stored, by a guest with write on the page; else its starting word
 abbrev pub IsLastStored : Board → ℕ → ℕ → Option (ℕ × ℕ) → ℕ → Type 0
 IsLastStored start p k None word = word ≡ start.memory.word p k
 IsLastStored start p k (Some s) word = (word ≡ s.1) × (start.book.right s.0 p ≡ Right.Write)
 
--- an accepted store has a place: on the page answered by its storer's last accepted fault under its key in the same page of
--- addresses; and the book gives the storer write on that page
-pub record MayStore (start : Board) (before : Log) (e : Entry) (va : ℕ) : Type 0 where
-  pub storer : ℕ
-  pub made_by : e.who ≡ Some storer
-  pub page : ℕ
-  pub placed : faulted before storer e.key (page_of va) ≡ Some page
-  pub may_write : start.book.right storer page ≡ Right.Write
-
-pub record StoresStand (start : Board) (h : History) (b : Board) : Type 0 where
-  -- every word outside enrolled pages
-  pub words : (p k : ℕ) → start.memory.has p ≡ true → k < page_words → ((g : ℕ) → enrolled start g p ≡ false) → IsLastStored start p k (last_store (attributed h) p k) (b.memory.word p k)
-  -- each accepted store, wherever it stands in the history
-  pub stores : (later before : Log) (e : Entry) (va word : ℕ) → attributed h ≡ later ++ (e ∷ before) → e.deed ≡ stores_at va word → MayStore start before e va
-
+-- every word outside enrolled pages
 abbrev pub WordsAreLastStored : Type 0
-WordsAreLastStored = AfterEveryShift StoresStand
+WordsAreLastStored =
+    (start : Board) → Started start → (h : History) (b : Board) → Shift start h b
+    → (p k : ℕ) → start.memory.has p ≡ true → k < 1024 → ((g : ℕ) → enrolled start g p ≡ false)
+    → IsLastStored start p k (last_store h p k) (b.memory.word p k)
+
+-- a call of guest i: all but schedule, made while i runs
+abbrev pub is_call_of : ℕ → History → Event → Bool
+is_call_of i h e = is_one (runs h) i && not (is_some (scheduled e.call))
+
+abbrev pub word_in : Option (ℕ × ℕ) → Option ℕ
+word_in None = None
+word_in (Some s) = Some s.1
+
+-- the last word that others put at a place that i may read, since i's last call or start
+abbrev pub news : Board → ℕ → History → ℕ → ℕ → Option ℕ
+news start i [] p k = None
+news start i (e ∷ h) p k =
+    cond (is_call_of i h e) None
+    (cond (nat_le 1 (rank (start.book.right i p))) (or_else (word_in (stored h e p k)) (news start i h p k)) None)
+
+-- a call of i, with what others had stored before it
+pub record Turn : Type 0 where
+  pub call : Call
+  pub others : ℕ → ℕ → Option ℕ
+
+-- i's calls, the newest first
+abbrev pub turns : Board → ℕ → History → List Turn
+turns start i [] = []
+turns start i (e ∷ h) = cond (is_call_of i h e) (record { call = e.call; others = news start i h } ∷ turns start i h) (turns start i h)
+
+-- the answers to them
+abbrev pub answers_to : ℕ → History → List Answer
+answers_to i [] = []
+answers_to i (e ∷ h) = cond (is_call_of i h e) (e.answer ∷ answers_to i h) (answers_to i h)
+
+-- two shifts agree in guest i's view
+pub record SameView (i : ℕ) (start : Board) (h : History) (start' : Board) (h' : History) : Type 0 where
+  pub window : start.window ≡ start'.window
+  pub present : (p : ℕ) → p < start.window.count → start.memory.has p ≡ start'.memory.has p
+  pub rights : (p : ℕ) → start.book.right i p ≡ start'.book.right i p
+  pub enrolled_count : length (start.keeper.pages i) ≡ length (start'.keeper.pages i)
+  pub words : (p k : ℕ) → 1 ≤ rank (start.book.right i p) → word_at start.memory p k ≡ word_at start'.memory p k
+  pub calls : turns start i h ≡ turns start' i h'
+
+abbrev pub AnswersDependOnOwnView : Type 0
+AnswersDependOnOwnView =
+    (i : ℕ) (start : Board) (h : History) (b : Board) (start' : Board) (h' : History) (b' : Board)
+    → Started start → Shift start h b → Started start' → Shift start' h' b'
+    → SameView i start h start' h' → answers_to i h ≡ answers_to i h'

@@ -1,4 +1,2 @@
 pub mod Lists
-pub mod Counts
-pub mod Keepers
 pub mod Rights

@@ -1,12 +1,11 @@
 // The interface of a page keeper.
 ghost use Rattle.std.specs.Prelude.{◌≡◌};
-ghost use Rattle.platform.specs.Keepers.{Keep, Lawful, emptied, enrol_answer, enrol_after, Taken, give_answer, give_after, free_answer};
+ghost use Rattle.platform.specs.Keepers.{Keep, emptied, enrol_answer, enrol_after, Taken, give_answer, give_after, free_answer};
 
 use crate::refusal::Refusal;
 use crate::units::{Guest, Page};
 
-// A page keeper: for each guest up to 64 enrolled pages, and which of them are free. `holdings` is its meaning, and
-// `lawful` says what each value of it owes: that no guest has too many pages, and no page two guests.
+// A page keeper: for each guest up to 64 enrolled pages, and which of them are free. `holdings` is its meaning.
 pub trait PageKeeper {
     ghost holdings: { Self → Keep };
 
@@ -31,6 +30,4 @@ pub trait PageKeeper {
     // How many pages of a guest are free.
     fn free_count(&self, guest: Guest) -> Result<u32, Refusal>
         ensures answer { result ≡ free_answer (holdings self.now) guest };
-
-    ghost lawful: { (k : Self) → Lawful (holdings k) };
 }

@@ -9,9 +9,9 @@ use Rattle.descriptor.specs.declared.entry.SecondLevel.TheVariants.{LargePage, S
 use Rattle.descriptor.specs.Addresses.{first_index, second_index}
 use Rattle.descriptor.specs.Entries.{first_level, second_level}
 use Rattle.descriptor.specs.Shadow.{leaf_word}
-use Rattle.platform.specs.declared.abort.Abort.{Abort}
-use Rattle.platform.specs.declared.paging.Paging.TheVariants.{On}
-use Rattle.platform.specs.Aborts.{code}
+use Rattle.walk.specs.declared.abort.Abort.{Abort}
+use Rattle.walk.specs.declared.mapping.Paging.TheVariants.{On}
+use Rattle.walk.specs.Aborts.{code}
 use Rattle.walk.specs.Sights.{Sight}
 use Rattle.walk.specs.Walks.{ask_first, walk_answer}
 

@@ -1,9 +1,9 @@
 // Walks of a guest, by every kind of word and every abort.
 use machine::End::{Aborts, Maps};
 use machine::{End, Machine};
-use platform::paging::Paging;
 use platform::units::{Address, Guest, Page, Place, Word};
 use std::test::*;
+use walk::mapping::Paging;
 
 mod machine;
 

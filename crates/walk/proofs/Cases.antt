@@ -1,6 +1,6 @@
 -- Cases of a computed value, with the equation.
 use Rattle.std.proofs.Common.{◌≡◌, ℕ, Bool, true, false, Some, None, Ok, Err, Option, Result, refl, arith}
-use Rattle.platform.specs.declared.abort.Abort.{Abort}
+use Rattle.walk.specs.declared.abort.Abort.{Abort}
 
 pub by_option : {A : Type 0} (P : Option A → Type 0) (o : Option A) → (o ≡ None → P None) → ((x : A) → o ≡ Some x → P (Some x)) → P o
 by_option P None f g = f refl

@@ -9,11 +9,11 @@ use Rattle.platform.specs.Books.{Book, PoolsGiveNothing}
 use Rattle.platform.specs.Memories.{Mem}
 use Rattle.platform.specs.Rights.{rank}
 use Rattle.platform.specs.Windows.{Pane, physical}
-use Rattle.platform.specs.declared.abort.Abort.{Abort}
-use Rattle.platform.specs.declared.abort.Abort.TheVariants.{External}
-use Rattle.walk.specs.declared.ask.Ask.{Ask}
-use Rattle.platform.specs.declared.mapping.Mapping.{Mapping}
-use Rattle.platform.specs.declared.paging.Paging.{Paging}
+use Rattle.walk.specs.declared.abort.Abort.{Abort}
+use Rattle.walk.specs.declared.abort.Abort.TheVariants.{External}
+use Rattle.walk.specs.declared.mapping.Ask.{Ask}
+use Rattle.walk.specs.declared.mapping.Mapping.{Mapping}
+use Rattle.walk.specs.declared.mapping.Paging.{Paging}
 use Rattle.walk.specs.Sights.{permits, lies_at, may_at, sight}
 use Rattle.walk.specs.Walks.{next, asked, landed, reached, granted, walk_answer}
 use Rattle.walk.specs.Laws.{Allowed, MappingIsAllowed}

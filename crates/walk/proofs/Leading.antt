@@ -8,12 +8,12 @@ use Rattle.descriptor.specs.declared.entry.FirstLevel.{FirstLevel}
 use Rattle.descriptor.specs.declared.entry.SecondLevel.{SecondLevel}
 use Rattle.descriptor.specs.Addresses.{first_index}
 use Rattle.descriptor.specs.Entries.{first_level, second_level}
-use Rattle.platform.specs.declared.abort.Abort.{Abort}
-use Rattle.platform.specs.declared.abort.Abort.TheVariants.{SectionTranslation, External, FirstLevelWalk, SectionPermission, SecondLevelWalk, PagePermission}
-use Rattle.walk.specs.declared.ask.Ask.{Ask}
-use Rattle.platform.specs.declared.mapping.Mapping.{Mapping}
-use Rattle.platform.specs.declared.paging.Paging.{Paging}
-use Rattle.platform.specs.declared.paging.Paging.TheVariants.{Off, On}
+use Rattle.walk.specs.declared.abort.Abort.{Abort}
+use Rattle.walk.specs.declared.abort.Abort.TheVariants.{SectionTranslation, External, FirstLevelWalk, SectionPermission, SecondLevelWalk, PagePermission}
+use Rattle.walk.specs.declared.mapping.Ask.{Ask}
+use Rattle.walk.specs.declared.mapping.Mapping.{Mapping}
+use Rattle.walk.specs.declared.mapping.Paging.{Paging}
+use Rattle.walk.specs.declared.mapping.Paging.TheVariants.{Off, On}
 use Rattle.walk.specs.Sights.{Sight, permits}
 use Rattle.walk.specs.Walks.{next, word_or, ask, ask_second, ask_entry, ask_first, asked, landed, reached, granted, walk_answer}
 use Rattle.walk.specs.Leads.{ThroughTable, Leads, MayHave, AnswersAreLedTo, WhatIsLedToIsAnswered}

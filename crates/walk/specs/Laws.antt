@@ -5,11 +5,10 @@ use Rattle.platform.specs.declared.right.Right.{Right}
 use Rattle.platform.specs.Books.{Book}
 use Rattle.platform.specs.Memories.{Mem}
 use Rattle.platform.specs.Rights.{rank}
-use Rattle.platform.specs.Units.{page_words}
 use Rattle.platform.specs.Windows.{Pane}
-use Rattle.platform.specs.declared.abort.Abort.{Abort}
-use Rattle.platform.specs.declared.mapping.Mapping.{Mapping}
-use Rattle.platform.specs.declared.paging.Paging.{Paging}
+use Rattle.walk.specs.declared.abort.Abort.{Abort}
+use Rattle.walk.specs.declared.mapping.Mapping.{Mapping}
+use Rattle.walk.specs.declared.mapping.Paging.{Paging}
 use Rattle.walk.specs.Sights.{permits, sight}
 use Rattle.walk.specs.Walks.{walk_answer}
 
@@ -32,7 +31,7 @@ MappingIsAllowed m b w g x (Err e) = Unit {0}
 pub record LookAlike (n : ℕ) (m m' : Mem) (r r' : ℕ → Right) : Type 0 where
   pub present : (p : ℕ) → p < n → m.has p ≡ m'.has p
   pub rights : (p : ℕ) → p < n → r p ≡ r' p
-  pub words : (p k : ℕ) → p < n → m.has p ≡ true → 1 ≤ rank (r p) → k < page_words → m.word p k ≡ m'.word p k
+  pub words : (p k : ℕ) → p < n → m.has p ≡ true → 1 ≤ rank (r p) → k < 1024 → m.word p k ≡ m'.word p k
 
 abbrev pub WalkReadsOnlyWhatIsReadable : Type 0
 WalkReadsOnlyWhatIsReadable =

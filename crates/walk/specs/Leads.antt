@@ -1,16 +1,15 @@
 -- The walk as a relation: where a guest's tables lead, and what it may have there.
-use Rattle.std.specs.Prelude.{◌≡◌, ℕ, ◌<◌, ◌≤◌, true, ◌⊎◌, Some, Ok}
+use Rattle.std.specs.Prelude.{◌≡◌, ℕ, ◌/◌, ◌<◌, ◌≤◌, true, ◌⊎◌, Some, Ok}
 use Rattle.platform.specs.declared.access.Access.{Access}
 use Rattle.platform.specs.declared.right.Right.{Right}
 use Rattle.platform.specs.Rights.{rank}
-use Rattle.platform.specs.Units.{address_limit, page_of}
 use Rattle.descriptor.specs.declared.entry.FirstLevel.{FirstLevel}
 use Rattle.descriptor.specs.declared.entry.SecondLevel.{SecondLevel}
 use Rattle.descriptor.specs.Addresses.{first_index}
 use Rattle.descriptor.specs.Entries.{first_level, second_level}
-use Rattle.platform.specs.declared.mapping.Mapping.{Mapping}
-use Rattle.platform.specs.declared.paging.Paging.{Paging}
-use Rattle.platform.specs.declared.paging.Paging.TheVariants.{Off, On}
+use Rattle.walk.specs.declared.mapping.Mapping.{Mapping}
+use Rattle.walk.specs.declared.mapping.Paging.{Paging}
+use Rattle.walk.specs.declared.mapping.Paging.TheVariants.{Off, On}
 use Rattle.walk.specs.Sights.{Sight, permits}
 use Rattle.walk.specs.Walks.{walk_answer}
 
@@ -25,9 +24,9 @@ ThroughTable s word va page right =
 
 -- at an address the guest asks for a guest page with a right
 abbrev pub Leads : Sight → ℕ → Paging → ℕ → Right → Type 0
-Leads s va Off page right = (va < address_limit) × (page ≡ page_of va) × (right ≡ s.may page)
+Leads s va Off page right = (va < 0x40000000) × (page ≡ va / 4096) × (right ≡ s.may page)
 Leads s va (On base) page right =
-    (va < address_limit)
+    (va < 0x40000000)
     × ((word : ℕ) × ((s.seen base (first_index va) ≡ Some word)
     × ((first_level word va ≡ FirstLevel.Section page right) ⊎ ThroughTable s word va page right)))
 

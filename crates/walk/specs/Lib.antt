@@ -1,3 +1,4 @@
+pub mod Aborts
 pub mod Sights
 pub mod Views
 pub mod Walks

@@ -1,19 +1,18 @@
 -- The walk over what a guest sees.
-use Rattle.std.specs.Prelude.{ℕ, cond, Some, None, Ok, Err, Option, Result, nat_le, nat_lt}
+use Rattle.std.specs.Prelude.{ℕ, ◌/◌, cond, Some, None, Ok, Err, Option, Result, nat_le, nat_lt}
 use Rattle.platform.specs.declared.access.Access.{Access}
 use Rattle.platform.specs.declared.right.Right.{Right}
 use Rattle.platform.specs.Rights.{rank}
-use Rattle.platform.specs.Units.{address_limit, page_of}
 use Rattle.descriptor.specs.declared.entry.FirstLevel.{FirstLevel}
 use Rattle.descriptor.specs.declared.entry.SecondLevel.{SecondLevel}
 use Rattle.descriptor.specs.Addresses.{first_index}
 use Rattle.descriptor.specs.Entries.{first_level, second_level}
-use Rattle.platform.specs.declared.abort.Abort.{Abort}
-use Rattle.platform.specs.declared.abort.Abort.TheVariants.{SectionTranslation, PageTranslation, External, FirstLevelWalk, SectionPermission, SecondLevelWalk, PagePermission}
-use Rattle.walk.specs.declared.ask.Ask.{Ask}
-use Rattle.platform.specs.declared.mapping.Mapping.{Mapping}
-use Rattle.platform.specs.declared.paging.Paging.{Paging}
-use Rattle.platform.specs.declared.paging.Paging.TheVariants.{Off, On}
+use Rattle.walk.specs.declared.abort.Abort.{Abort}
+use Rattle.walk.specs.declared.abort.Abort.TheVariants.{SectionTranslation, PageTranslation, External, FirstLevelWalk, SectionPermission, SecondLevelWalk, PagePermission}
+use Rattle.walk.specs.declared.mapping.Ask.{Ask}
+use Rattle.walk.specs.declared.mapping.Mapping.{Mapping}
+use Rattle.walk.specs.declared.mapping.Paging.{Paging}
+use Rattle.walk.specs.declared.mapping.Paging.TheVariants.{Off, On}
 use Rattle.walk.specs.Sights.{Sight, permits}
 
 -- the next step, unless the walk has aborted
@@ -48,13 +47,13 @@ ask_first s word va = ask_entry s va (first_level word va)
 -- paging on: the first-level word stands at the address's first index on the base's page
 abbrev pub ask_on : Sight → ℕ → ℕ → Result Ask Abort
 ask_on s base va =
-    cond (nat_lt va address_limit)
+    cond (nat_lt va 0x40000000)
     (next (word_or (s.seen base (first_index va)) FirstLevelWalk) (λ word. ask_first s word va))
     (Err SectionTranslation)
 
 -- paging off: the address's own page, with the right that the guest has there
 abbrev pub ask_off : Sight → ℕ → Result Ask Abort
-ask_off s va = cond (nat_lt va address_limit) (Ok (ask (page_of va) (s.may (page_of va)) External)) (Err External)
+ask_off s va = cond (nat_lt va 0x40000000) (Ok (ask (va / 4096) (s.may (va / 4096)) External)) (Err External)
 
 abbrev pub asked : Sight → Paging → ℕ → Result Ask Abort
 asked s Off va = ask_off s va

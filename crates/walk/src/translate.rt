@@ -5,13 +5,12 @@ ghost use Rattle.walk.specs.Sights.{sight};
 ghost use Rattle.walk.specs.Walks.{walk_answer};
 ghost use Rattle.walk.specs.Laws.{MappingIsAllowed};
 
+use crate::abort::Abort;
+use crate::mapping::{Mapping, Paging};
 use crate::view::View;
-use platform::abort::Abort;
 use platform::access::Access;
 use platform::book::RightsBook;
-use platform::mapping::Mapping;
 use platform::memory::Memory;
-use platform::paging::Paging;
 use platform::units::{Address, Guest};
 use platform::window::Window;
 

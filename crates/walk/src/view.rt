@@ -4,19 +4,20 @@ ghost use Rattle.walk.specs.Sights.{permits};
 ghost use Rattle.walk.specs.Views.{seen_by};
 ghost use Rattle.walk.specs.Walks.{word_or, ask_first, ask_on, ask_off, reached, walk_answer};
 
-use crate::ask::Ask;
+use crate::abort::Abort;
+use crate::mapping::{Ask, Mapping, Paging};
 use descriptor::address::first_index;
 use descriptor::entry::{FirstLevel, SecondLevel, first_level, second_level};
-use platform::abort::Abort;
 use platform::access::Access;
 use platform::address::page_of;
 use platform::book::RightsBook;
-use platform::mapping::Mapping;
 use platform::memory::Memory;
-use platform::paging::Paging;
 use platform::right::Right;
-use platform::units::{ADDRESS_LIMIT, Address, Guest, GuestPage, Place, Word};
+use platform::units::{Address, Guest, Page, Place, Word};
 use platform::window::Window;
+
+// Guests have no address from here up: the second base register is not walked.
+const ADDRESS_LIMIT: Address = 0x4000_0000;
 
 // Whether a right is enough for an access.
 fn permits(right: Right, access: Access) -> bool
@@ -39,7 +40,7 @@ pub struct View<'m, 'b, M, B> {
 
 impl<'m, 'b, M: Memory, B: RightsBook> View<'m, 'b, M, B> {
     // The guest's right on a guest page.
-    fn right_on(&self, page: GuestPage) -> Right
+    fn right_on(&self, page: Page) -> Right
         ensures answer { result ≡ (seen_by contents rules self.now).may page }
     {
         match self.window.physical(page) {
@@ -49,7 +50,7 @@ impl<'m, 'b, M: Memory, B: RightsBook> View<'m, 'b, M, B> {
     }
 
     // A table word on a guest page, which is read only if the guest may read it; else the abort.
-    fn table_word(&self, page: GuestPage, place: Place, abort: Abort) -> Result<Word, Abort>
+    fn table_word(&self, page: Page, place: Place, abort: Abort) -> Result<Word, Abort>
         ensures answer { result ≡ word_or ((seen_by contents rules self.now).seen page place) abort }
     {
         let Some(at) = self.window.physical(page) else {
@@ -91,7 +92,7 @@ impl<'m, 'b, M: Memory, B: RightsBook> View<'m, 'b, M, B> {
     }
 
     // What the guest's tables ask for.
-    fn ask_on(&self, base: GuestPage, va: Address) -> Result<Ask, Abort>
+    fn ask_on(&self, base: Page, va: Address) -> Result<Ask, Abort>
         ensures answer { result ≡ ask_on (seen_by contents rules self.now) base va }
     {
         if va >= ADDRESS_LIMIT {
@@ -117,7 +118,7 @@ impl<'m, 'b, M: Memory, B: RightsBook> View<'m, 'b, M, B> {
     }
 
     // The mapping of a guest page with the right asked for, if the guest may have it.
-    fn reach(&self, page: GuestPage, right: Right) -> Result<Mapping, Abort>
+    fn reach(&self, page: Page, right: Right) -> Result<Mapping, Abort>
         ensures answer { result ≡ reached (seen_by contents rules self.now) page right }
     {
         let Some(at) = self.window.physical(page) else {

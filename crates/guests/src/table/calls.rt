@@ -1,6 +1,6 @@
 // The calls that touch no table.
 ghost use Rattle.std.specs.Prelude.{◌≡◌, ◌<◌, IfOk};
-ghost use Rattle.guests.specs.Rosters.{roster, running_index, schedule_answer, schedule_after, call_answer, switch_after, paging_after, status_answer};
+ghost use Rattle.guests.specs.Rosters.{roster, running_place, schedule_answer, schedule_after, call_answer, switch_after, paging_after, status_answer};
 
 use super::Guests;
 use platform::address::page_of;
@@ -10,8 +10,8 @@ use platform::units::{Address, Guest};
 
 impl Guests {
     // Where the running guest's record stands.
-    fn running_index(&self) -> Result<usize, Refusal>
-        ensures answer { result ≡ running_index self.now.running }
+    fn running_place(&self) -> Result<usize, Refusal>
+        ensures answer { result ≡ running_place self.now.running }
         ensures within { IfOk result (λ i. i < 8) }
     {
         match self.running {
@@ -40,7 +40,7 @@ impl Guests {
         ensures answer { result ≡ call_answer (roster self.old) }
         ensures after { roster self.new ≡ switch_after (roster self.old) base }
     {
-        let i = self.running_index()?;
+        let i = self.running_place()?;
         self.records[i].base = page_of(base);
         Ok(())
     }
@@ -50,7 +50,7 @@ impl Guests {
         ensures answer { result ≡ call_answer (roster self.old) }
         ensures after { roster self.new ≡ paging_after (roster self.old) on }
     {
-        let i = self.running_index()?;
+        let i = self.running_place()?;
         self.records[i].paging = on;
         Ok(())
     }
@@ -59,7 +59,7 @@ impl Guests {
     pub fn status(&self) -> Result<(u32, Address), Refusal>
         ensures answer { result ≡ status_answer (roster self.now) }
     {
-        let i = self.running_index()?;
+        let i = self.running_place()?;
         let record = &self.records[i];
         Ok((record.code, record.address))
     }

@@ -10,7 +10,7 @@ use platform::units::Guest;
 use std::alloc::{AllocError, Global};
 
 // A guest that is not admitted, with paging off and base 0.
-const NEW_RECORD: GuestRecord = GuestRecord {
+const BLANK: GuestRecord = GuestRecord {
     admitted: false,
     paging: false,
     base: 0,
@@ -23,7 +23,7 @@ impl Guests {
     pub fn new(heap: Global) -> Result<Self, AllocError>
         ensures answer { IfOk result (λ t. roster t ≡ fresh) }
     {
-        let records = Vec::from_slice(heap, &[NEW_RECORD; 8])?;
+        let records = Vec::from_slice(heap, &[BLANK; 8])?;
         Ok(Guests {
             records,
             running: None,

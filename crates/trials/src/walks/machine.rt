@@ -4,11 +4,11 @@ use books::bytes::ByteBook;
 use memories::flat::FlatWords;
 use platform::access::Access;
 use platform::memory::Memory;
-use platform::paging::Paging;
 use platform::units::{Address, Guest, PAGE_WORDS, Page, Place, Word};
 use platform::window::Window;
 use std::alloc::Global;
 use std::test::*;
+use walk::mapping::Paging;
 use walk::translate::translate;
 
 // How a walk ends: on a physical page with a right's rank, or with a fault status code.
