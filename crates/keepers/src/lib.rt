@@ -1,4 +1,6 @@
 // Page keepers: one that keeps stacks, one that keeps marks.
+#![tactic(auto)]
+
 pub mod laws;
 pub mod mark;
 pub mod marks;

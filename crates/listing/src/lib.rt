@@ -1,4 +1,6 @@
 // The listing: a line of text for each record of a script, which says what came of it.
+#![tactic(auto)]
+
 mod hex;
 mod line;
 mod outcome;

@@ -1,4 +1,6 @@
 // Runs a script: sets up, starts, makes the calls, and says what came of each record.
+#![tactic(auto)]
+
 mod enrol;
 mod run;
 mod session;

@@ -1,5 +1,7 @@
 // The script: records of a length, a kind and a body, read one by one from borrowed bytes,
 // and the commands that they say.
+#![tactic(auto)]
+
 mod command;
 mod decode;
 mod fields;

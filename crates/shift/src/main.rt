@@ -1,4 +1,6 @@
 // The program: reads a script from standard input, and prints what came of each record.
+#![tactic(auto)]
+
 use runner::report;
 use std::io;
 use std::io::Read;

@@ -1,4 +1,6 @@
 // Worked examples of the core: a theorem over a list, and tests with tables of cases.
+#![tactic(auto)]
+
 #[cfg(test)]
 mod books;
 #[cfg(test)]
