@@ -6,9 +6,9 @@ use Rattle.listing.proofs.whole.render.Goals as goal
 pub loop-line-preserved : goal.loop-line-preserved
 loop-line-preserved c =
     listing_more c.args.lines.now c.loop-line.line-index _ _ _ _ _ (omega arith) c.loop-line.invariant
-    (c.as-str.ensures.value ∙ c.in-ok-row.ensures.answer)
-    c.in-ok-push-str.ensures.bytes
-    c.in-ok-push-str-2.ensures.bytes
+    (c.as_str.ensures.value ∙ c.in_ok-row.ensures.answer)
+    c.in_ok-push_str.ensures.bytes
+    c.in_ok-push_str-2.ensures.bytes
 
 pub returns : goal.returns
 returns c =

@@ -23,20 +23,20 @@ records-preserved c =
     let turns = i.3.0 in
     let xs = c.args.input.now in
     let p = c.records.reader.place in
-    let q = c.next-command.new.self.place in
+    let q = c.next_command.new.self.place in
     let cs = vec_items c.records.commands in
     let command = c.in-Ok.command in
     let e : step (reading_at xs p) ≡ Ok command = sym (c.in-Ok.ensures.answer ∙ ap (λ (zs : List ℕ). step (reading_at zs p)) i.0) in
-    let a : q ≡ place_after (reading_at xs p) p = c.next-command.ensures.after ∙ ap (λ (zs : List ℕ). place_after (reading_at zs p) p) i.0 in
-    let same : c.next-command.new.self.input.now ≡ xs = c.next-command.ensures.same ∙ i.0 in
-    let law = subst (λ (zs : List ℕ). Spelled (reading_at zs p) (drop p zs) (left c.next-command.new.self)) i.0 c.next-command.ensures.law in
+    let a : q ≡ place_after (reading_at xs p) p = c.next_command.ensures.after ∙ ap (λ (zs : List ℕ). place_after (reading_at zs p) p) i.0 in
+    let same : c.next_command.new.self.input.now ≡ xs = c.next_command.ensures.same ∙ i.0 in
+    let law = subst (λ (zs : List ℕ). Spelled (reading_at zs p) (drop p zs) (left c.next_command.new.self)) i.0 c.next_command.ensures.law in
     let here = subst (λ (zs : List ℕ). Spelled (reading_at xs p) (drop p xs) (drop q zs)) same law in
-    let items : vec_items c.push.new.self ≡ cs ++ command ∷ [] = c.in-ok-push.ensures.items in
+    let items : vec_items c.push.new.self ≡ cs ++ command ∷ [] = c.in_ok-push-in-Ok.ensures.items in
     let within = ap length same in
     let far = goes_on (reading_at xs p) p command e in
     let w : turns ≡ suc (turns - 1) = omega arith in (
       same,
-      omega (arith, c.in-ok-push.ensures.len),
+      omega (arith, c.in_ok-push-in-Ok.ensures.len),
       read_more xs p q cs (vec_items c.push.new.self) command (reading_at xs p) i.2 e here items,
       (
         turns - 1,

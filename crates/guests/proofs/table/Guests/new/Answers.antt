@@ -11,4 +11,4 @@ all_blank g = let e : g - 1 < 8 → get_or (replicate 8 blank) (g - 1) blank ≡
 
 pub returns : goal.returns
 returns c =
-    record { answer = let e = ap records_of c.in-ok-records.ensures.items ∙ fun_ext all_blank in search rules }
+    record { answer = let e = ap records_of c.in_ok-records.ensures.items ∙ fun_ext all_blank in search rules }

@@ -4,7 +4,7 @@ use Rattle.script.specs.Records.{reading, spelling}
 use Rattle.script.proofs.Readings.{tail_is, reads_end, reads_short, reads_small, reads_cut, reads_record, body_is, body_length}
 use Rattle.script.proofs.Spellings.{Bytes, spelled_at}
 use Rattle.script.proofs.reader.ScriptReader.next.Goals as goal
-use Rattle.script.proofs.reader.ScriptReader.next.Goals.{then-length-lt-KIND-SIZE-via-then-length-lt-KIND-SIZE, then-length-lt-KIND-SIZE-via-else-length-lt-KIND-SIZE+then-rest-length}
+use Rattle.script.proofs.reader.ScriptReader.next.Goals.{then-length-lt-KIND_SIZE-via-then-length-lt-KIND_SIZE, then-length-lt-KIND_SIZE-via-else-length-lt-KIND_SIZE+then-rest-length}
 
 pub returns-in-empty : goal.returns-in-empty
 returns-in-empty c =
@@ -13,26 +13,26 @@ returns-in-empty c =
     let s = take (length xs - p) (drop p xs) in
     record { same = refl; answer = sym (ap reading (sym (tail_is xs p)) ∙ reads_end s (omega (arith, ltb-true))); after = refl; law = tt }
 
-pub returns-in-default : goal.returns-in-default
-returns-in-default c =
+pub returns-in_default : goal.returns-in_default
+returns-in_default c =
     let xs = c.args.self.now.input.now in
     let p = c.args.self.now.place in
     let s = take (length xs - p) (drop p xs) in
     let r = reads_short s (omega (arith, ltb-false)) (omega (arith, ltb-true)) in
     record { same = refl; answer = sym (ap reading (sym (tail_is xs p)) ∙ r); after = refl; law = tt }
 
-pub returns-then-length-lt-KIND-SIZE : goal.returns-then-length-lt-KIND-SIZE
-returns-then-length-lt-KIND-SIZE c =
+pub returns-then-length-lt-KIND_SIZE : goal.returns-then-length-lt-KIND_SIZE
+returns-then-length-lt-KIND_SIZE c =
     let xs = c.args.self.now.input.now in
     let p = c.args.self.now.place in
     let s = take (length xs - p) (drop p xs) in
     let h : 0 < length s = omega (arith, ltb-false) in
-    let e = c.from-le-bytes-length.ensures in
+    let e = c.from_le_bytes-length.ensures in
     record {
       same = refl;
-      answer = elim c.then-length-lt-KIND-SIZE.branch [
-        | then-length-lt-KIND-SIZE-via-then-length-lt-KIND-SIZE w ↦ sym (ap reading (sym (tail_is xs p)) ∙ reads_small s h (omega arith))
-        | then-length-lt-KIND-SIZE-via-else-length-lt-KIND-SIZE+then-rest-length w ↦ sym (ap reading (sym (tail_is xs p)) ∙ reads_cut s h (omega arith))
+      answer = elim c.then-length-lt-KIND_SIZE.branch [
+        | then-length-lt-KIND_SIZE-via-then-length-lt-KIND_SIZE w ↦ sym (ap reading (sym (tail_is xs p)) ∙ reads_small s h (omega arith))
+        | then-length-lt-KIND_SIZE-via-else-length-lt-KIND_SIZE+then-rest-length w ↦ sym (ap reading (sym (tail_is xs p)) ∙ reads_cut s h (omega arith))
       ];
       after = refl;
       law = tt;
@@ -43,9 +43,9 @@ returns-else-rest-length c =
     let xs = c.args.self.now.input.now in
     let p = c.args.self.now.place in
     let s = take (length xs - p) (drop p xs) in
-    let n = c.from-le-bytes-length.result in
-    let e : n ≡ field s 0 2 = omega (arith, c.from-le-bytes-length.ensures) in
-    let k : c.from-le-bytes-kind.result ≡ field s 2 2 = omega (arith, c.from-le-bytes-kind.ensures) in
+    let n = c.from_le_bytes-length.result in
+    let e : n ≡ field s 0 2 = omega (arith, c.from_le_bytes-length.ensures) in
+    let k : c.from_le_bytes-kind.result ≡ field s 2 2 = omega (arith, c.from_le_bytes-kind.ensures) in
     let bytes : Bytes s = record { b0 = omega arith; b1 = omega arith; b2 = omega arith; b3 = omega arith } in
     let h : 4 + (n - 2) ≤ length s = omega (arith, ltb-false) in
     let b = body_is s (n - 2) in
