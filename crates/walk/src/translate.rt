@@ -25,8 +25,8 @@ pub fn translate<M: Memory, B: RightsBook>(
     va: Address,
     access: Access,
 ) -> Result<Mapping, Abort>
-    ensures answer { result ≡ walk_answer (sight (contents memory.now) ((rules book.now).right guest) (pane window)) paging va access }
-    ensures law { MappingIsAllowed (contents memory.now) (rules book.now) (pane window) guest access result }
+    ensures answer { result ≡ walk_answer (sight (M.contents memory.now) ((B.rules book.now).right guest) (pane window)) paging va access }
+    ensures law { MappingIsAllowed (M.contents memory.now) (B.rules book.now) (pane window) guest access result }
 {
     let view = View {
         memory,

@@ -41,7 +41,7 @@ pub struct View<'m, 'b, M, B> {
 impl<'m, 'b, M: Memory, B: RightsBook> View<'m, 'b, M, B> {
     // The guest's right on a guest page.
     fn right_on(&self, page: Page) -> Right
-        ensures answer { result ≡ (seen_by contents rules self.now).may page }
+        ensures answer { result ≡ (seen_by M.contents B.rules self.now).may page }
     {
         match self.window.physical(page) {
             None => Right::Nothing,
@@ -51,7 +51,7 @@ impl<'m, 'b, M: Memory, B: RightsBook> View<'m, 'b, M, B> {
 
     // A table word on a guest page, which is read only if the guest may read it; else the abort.
     fn table_word(&self, page: Page, place: Place, abort: Abort) -> Result<Word, Abort>
-        ensures answer { result ≡ word_or ((seen_by contents rules self.now).seen page place) abort }
+        ensures answer { result ≡ word_or ((seen_by M.contents B.rules self.now).seen page place) abort }
     {
         let Some(at) = self.window.physical(page) else {
             return Err(abort);
@@ -67,7 +67,7 @@ impl<'m, 'b, M: Memory, B: RightsBook> View<'m, 'b, M, B> {
 
     // What a first-level word asks for, with the second-level word that it names.
     fn ask_first(&self, word: Word, va: Address) -> Result<Ask, Abort>
-        ensures answer { result ≡ ask_first (seen_by contents rules self.now) word va }
+        ensures answer { result ≡ ask_first (seen_by M.contents B.rules self.now) word va }
     {
         match first_level(word, va) {
             FirstLevel::Invalid | FirstLevel::Supersection => Err(Abort::SectionTranslation),
@@ -93,7 +93,7 @@ impl<'m, 'b, M: Memory, B: RightsBook> View<'m, 'b, M, B> {
 
     // What the guest's tables ask for.
     fn ask_on(&self, base: Page, va: Address) -> Result<Ask, Abort>
-        ensures answer { result ≡ ask_on (seen_by contents rules self.now) base va }
+        ensures answer { result ≡ ask_on (seen_by M.contents B.rules self.now) base va }
     {
         if va >= ADDRESS_LIMIT {
             return Err(Abort::SectionTranslation);
@@ -104,7 +104,7 @@ impl<'m, 'b, M: Memory, B: RightsBook> View<'m, 'b, M, B> {
 
     // With paging off the address's own page is asked for, with the right that the book gives.
     fn ask_off(&self, va: Address) -> Result<Ask, Abort>
-        ensures answer { result ≡ ask_off (seen_by contents rules self.now) va }
+        ensures answer { result ≡ ask_off (seen_by M.contents B.rules self.now) va }
     {
         if va >= ADDRESS_LIMIT {
             return Err(Abort::External);
@@ -119,7 +119,7 @@ impl<'m, 'b, M: Memory, B: RightsBook> View<'m, 'b, M, B> {
 
     // The mapping of a guest page with the right asked for, if the guest may have it.
     fn reach(&self, page: Page, right: Right) -> Result<Mapping, Abort>
-        ensures answer { result ≡ reached (seen_by contents rules self.now) page right }
+        ensures answer { result ≡ reached (seen_by M.contents B.rules self.now) page right }
     {
         let Some(at) = self.window.physical(page) else {
             return Err(Abort::External);
@@ -132,7 +132,7 @@ impl<'m, 'b, M: Memory, B: RightsBook> View<'m, 'b, M, B> {
 
     // The whole walk.
     pub fn walk(&self, paging: Paging, va: Address, access: Access) -> Result<Mapping, Abort>
-        ensures answer { result ≡ walk_answer (seen_by contents rules self.now) paging va access }
+        ensures answer { result ≡ walk_answer (seen_by M.contents B.rules self.now) paging va access }
     {
         let ask = match paging {
             Paging::Off => self.ask_off(va)?,

@@ -4,8 +4,8 @@ use Rattle.books.specs.Intervals.{tidy}
 use Rattle.books.specs.Tidy.{tidy_grant}
 use Rattle.books.proofs.interval.IntervalBook.grant.Goals as goal
 
-pub invariant-of-self : goal.invariant-of-self
-invariant-of-self c =
+pub invariant_of-self : goal.invariant_of-self
+invariant_of-self c =
     let b = c.args.self.now in
-    let t = tidy_grant (vec_items b.grants) b.pools c.args.new b.neat (search rules) (search rules) (sym c.if-writes-meet.ensures.answer) (sym c.if-is-pooled.ensures.answer) in
-    (search rules, (b.eight, (ap (λ (xs : List Grant). tidy xs b.pools) c.push-reserved.ensures.items ∙ t, tt)))
+    let t = tidy_grant (vec_items b.grants) b.pools c.args.new b.neat (search rules) (search rules) (sym c.if-writes_meet.ensures.answer) (sym c.if-is_pooled.ensures.answer) in
+    record { room = search rules; eight = b.eight; neat = ap (λ (xs : List Grant). tidy xs b.pools) c.push_reserved.ensures.items ∙ t }

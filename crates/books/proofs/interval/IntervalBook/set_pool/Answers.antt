@@ -2,7 +2,11 @@ use Rattle.std.proofs.Common.{◌-◌, vec_items, sym, ◌∙◌, length-set, ru
 use Rattle.books.specs.Tidy.{tidy_pool}
 use Rattle.books.proofs.interval.IntervalBook.set_pool.Goals as goal
 
-pub invariant-of-self : goal.invariant-of-self
-invariant-of-self c =
+pub invariant_of-self : goal.invariant_of-self
+invariant_of-self c =
     let b = c.args.self.now in
-    (b.room, (search rules, (tidy_pool (vec_items b.grants) b.pools (c.args.guest - 1) c.args.span b.neat (search rules) (sym c.if-is-granted.ensures.answer), tt)))
+    record {
+      room = b.room;
+      eight = search rules;
+      neat = tidy_pool (vec_items b.grants) b.pools (c.args.guest - 1) c.args.span b.neat (search rules) (sym c.if-is_granted.ensures.answer);
+    }

@@ -8,10 +8,10 @@ use Rattle.keepers.proofs.marks.MarksKeeper.new.Goals as goal
 pub loop-heap-preserved : goal.loop-heap-preserved
 loop-heap-preserved c =
     let n = vec_len c.loop-heap.rows in
-    let m = vec_len c.push-reserved.new.self in (
+    let m = vec_len c.push_reserved.new.self in (
       search rules,
       search rules,
-      plain_push no_ring ring_of (vec_items c.loop-heap.rows) (vec_items c.push-reserved.new.self) c.in-ok-new.field-0 n m c.push-reserved.ensures.items (search rules) c.push-reserved.ensures.len c.loop-heap.invariant.2 c.in-ok-new.ensures.answer,
+      plain_push no_ring ring_of (vec_items c.loop-heap.rows) (vec_items c.push_reserved.new.self) c.in_ok-new.field-0 n m c.push_reserved.ensures.items (search rules) c.push_reserved.ensures.len c.loop-heap.invariant.2 c.in_ok-new.ensures.answer,
     )
 
 pub returns : goal.returns

@@ -9,17 +9,16 @@ use Rattle.keepers.proofs.marks.PageMarks.add.Goals as goal
 pub returns-then-len-ge-ROOM : goal.returns-then-len-ge-ROOM
 returns-then-len-ge-ROOM c = let l = pages_length (vec_items c.args.self.now.marks) in record { answer = search rules; after = search rules }
 
-pub invariant-of-self : goal.invariant-of-self
-invariant-of-self c =
-    let ms = vec_items c.args.self.now.marks in (
-      search rules,
-      (
-        ap (λ (ns : List Mark). distinct (pages_of ns)) c.push-reserved.ensures.items
+pub invariant_of-self : goal.invariant_of-self
+invariant_of-self c =
+    let ms = vec_items c.args.self.now.marks in
+    record {
+      room = search rules;
+      neat =
+        ap (λ (ns : List Mark). distinct (pages_of ns)) c.push_reserved.ensures.items
             ∙ ap distinct (pages_push ms (record { page = c.args.page; free = true }))
-            ∙ distinct_push (pages_of ms) c.args.page c.args.self.now.neat c.requires,
-        tt,
-      ),
-    )
+            ∙ distinct_push (pages_of ms) c.args.page c.args.self.now.neat c.requires;
+    }
 
 pub returns : goal.returns
 returns c = let l = pages_length (vec_items c.args.self.now.marks) in record { answer = search rules; after = search rules }

@@ -6,8 +6,8 @@ use Rattle.keepers.proofs.Rows.{count_step, free_pages}
 use Rattle.keepers.proofs.Sets.{count_most}
 use Rattle.keepers.proofs.marks.PageMarks.free_count.Goals as goal
 
-pub overflow-add-free : goal.overflow-add-free
-overflow-add-free c =
+pub overflow_add-free : goal.overflow_add-free
+overflow_add-free c =
     let ms = vec_items c.args.self.now.marks in
     let s = count_step ms c.loop-i.i c.index.result.now (search rules) c.index.ensures in
     let m = count_most (λ m. m.free) ms in

@@ -11,8 +11,8 @@ index-requires c =
     let w = f.within in
     search rules
 
-pub index-mut-requires : goal.index-mut-requires
-index-mut-requires c =
+pub index_mut-requires : goal.index_mut-requires
+index_mut-requires c =
     let f = found (vec_items c.args.self.now.marks) c.args.page c.in-Some.i c.in-Some.ensures.answer in
     let w = f.within in
     search rules
@@ -24,11 +24,11 @@ returns-then-index c =
     let e = ap (is_free ms) (sym f.page) ∙ free_read ms c.in-Some.i c.index.result.now c.args.self.now.neat f.within c.index.ensures in
     record { answer = search rules; after = search rules }
 
-pub invariant-of-self : goal.invariant-of-self
-invariant-of-self c =
+pub invariant_of-self : goal.invariant_of-self
+invariant_of-self c =
     let ms = vec_items c.args.self.now.marks in
     let f = found ms c.args.page c.in-Some.i c.in-Some.ensures.answer in
-    (search rules, (neat_set ms c.in-Some.i c.index-mut.result.now true c.args.self.now.neat f.within (search rules), tt))
+    record { room = search rules; neat = neat_set ms c.in-Some.i c.index_mut.result.now true c.args.self.now.neat f.within (search rules) }
 
 pub returns : goal.returns
 returns c =
@@ -40,6 +40,6 @@ returns c =
     record {
       answer = search rules;
       after =
-          ap (λ (ns : List Mark). ring ns s.next) (set_is ms c.in-Some.i c.index-mut.result.now true f.within (search rules))
+          ap (λ (ns : List Mark). ring ns s.next) (set_is ms c.in-Some.i c.index_mut.result.now true f.within (search rules))
           ∙ ap (λ (i : ℕ). ring (set_free ms i true) s.next) f.place;
     }

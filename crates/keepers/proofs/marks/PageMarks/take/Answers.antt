@@ -14,24 +14,24 @@ index-requires c =
     let w = (round_free (vec_items s.marks) s.next c.in-Some.i (sym c.in-Some.ensures.answer)).within in
     search rules
 
-pub index-mut-requires : goal.index-mut-requires
-index-mut-requires c =
+pub index_mut-requires : goal.index_mut-requires
+index_mut-requires c =
     let s = c.args.self.now in
     let w = (round_free (vec_items s.marks) s.next c.in-Some.i (sym c.in-Some.ensures.answer)).within in
     search rules
 
-pub overflow-add-self : goal.overflow-add-self
-overflow-add-self c =
+pub overflow_add-self : goal.overflow_add-self
+overflow_add-self c =
     let s = c.args.self.now in
     let w = (round_free (vec_items s.marks) s.next c.in-Some.i (sym c.in-Some.ensures.answer)).within in
     search rules
 
-pub invariant-of-self : goal.invariant-of-self
-invariant-of-self c =
+pub invariant_of-self : goal.invariant_of-self
+invariant_of-self c =
     let s = c.args.self.now in
     let ms = vec_items s.marks in
     let w = (round_free ms s.next c.in-Some.i (sym c.in-Some.ensures.answer)).within in
-    (search rules, (neat_set ms c.in-Some.i c.index-mut.result.now false s.neat w (search rules), tt))
+    record { room = search rules; neat = neat_set ms c.in-Some.i c.index_mut.result.now false s.neat w (search rules) }
 
 pub returns-in-Some : goal.returns-in-Some
 returns-in-Some c =
@@ -42,5 +42,5 @@ returns-in-Some c =
     let t = round_at (ring ms s.next) i c.in-Some.ensures.answer in
     record {
       answer = ap ok (sym (page_read ms i c.index.result.now w c.index.ensures)) ∙ t.0;
-      after = ap (λ (ns : List Mark). ring ns (i + 1)) (set_is ms i c.index-mut.result.now false w (search rules)) ∙ t.1;
+      after = ap (λ (ns : List Mark). ring ns (i + 1)) (set_is ms i c.index_mut.result.now false w (search rules)) ∙ t.1;
     }

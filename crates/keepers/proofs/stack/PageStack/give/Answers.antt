@@ -6,8 +6,8 @@ use Rattle.keepers.proofs.Stacks.{stack_given}
 use Rattle.keepers.proofs.stack.PageStack.give.Goals as goal
 
 -- the stack with the page on it is still within the pages
-pub push-reserved-requires : goal.push-reserved-requires
-push-reserved-requires c =
+pub push_reserved-requires : goal.push_reserved-requires
+push_reserved-requires c =
     let s = c.args.self.now in
     let p = c.args.page in
     let t = stacked_give (vec_items s.pages) (vec_items s.free) p s.neat c.if-not-holds.ensures.answer c.if-stands.ensures.answer in
@@ -15,14 +15,14 @@ push-reserved-requires c =
     let e = length_push (vec_items s.free) p in
     search rules
 
-pub invariant-of-self : goal.invariant-of-self
-invariant-of-self c =
+pub invariant_of-self : goal.invariant_of-self
+invariant_of-self c =
     let s = c.args.self.now in
     let t = stacked_give (vec_items s.pages) (vec_items s.free) c.args.page s.neat c.if-not-holds.ensures.answer c.if-stands.ensures.answer in
-    (search rules, (ap (stacked (vec_items s.pages)) c.push-reserved.ensures.items ∙ t, tt))
+    record { room = search rules; neat = ap (stacked (vec_items s.pages)) c.push_reserved.ensures.items ∙ t }
 
 pub returns : goal.returns
 returns c =
     let s = c.args.self.now in
-    let t = stack_given (vec_items s.pages) (vec_items s.free) (vec_items c.push-reserved.new.self) c.args.page c.if-not-holds.ensures.answer c.if-stands.ensures.answer c.push-reserved.ensures.items in
-    record { answer = t.0; after = t.1; stack = c.push-reserved.ensures.items }
+    let t = stack_given (vec_items s.pages) (vec_items s.free) (vec_items c.push_reserved.new.self) c.args.page c.if-not-holds.ensures.answer c.if-stands.ensures.answer c.push_reserved.ensures.items in
+    record { answer = t.0; after = t.1; stack = c.push_reserved.ensures.items }

@@ -4,10 +4,10 @@ use Rattle.keepers.proofs.Sets.{stacked_pop}
 use Rattle.keepers.proofs.Stacks.{stack_taken, stack_untaken}
 use Rattle.keepers.proofs.stack.PageStack.take.Goals as goal
 
-pub invariant-of-self : goal.invariant-of-self
-invariant-of-self c =
+pub invariant_of-self : goal.invariant_of-self
+invariant_of-self c =
     let s = c.args.self.now in
-    (search rules, (stacked_pop (vec_items s.pages) (vec_items s.free) (vec_items c.pop.new.self) c.pop.result s.neat c.pop.ensures.items, tt))
+    record { room = search rules; neat = stacked_pop (vec_items s.pages) (vec_items s.free) (vec_items c.pop.new.self) c.pop.result s.neat c.pop.ensures.items }
 
 pub returns-in-None : goal.returns-in-None
 returns-in-None c =

@@ -5,5 +5,5 @@ use Rattle.memories.proofs.listed.ListedPages.add_blank.Goals as goal
 
 pub returns : goal.returns
 returns c =
-    let e = ap listed c.push-reserved.ensures.items ∙ listed_blank (vec_items c.args.self.now.pages) c.args.page in
-    record { after = cc (e, c.push-reserved.ensures.len) }
+    let e = ap listed c.push_reserved.ensures.items ∙ listed_blank (vec_items c.args.self.now.pages) c.args.page in
+    record { after = cc (e, c.push_reserved.ensures.len) }

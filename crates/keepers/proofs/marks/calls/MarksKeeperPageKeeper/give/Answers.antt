@@ -9,7 +9,7 @@ use Rattle.keepers.proofs.marks.calls.MarksKeeperPageKeeper.give.Goals as goal
 pub returns : goal.returns
 returns c =
     let xs = vec_items c.args.self.now.rows in
-    let x = c.index-mut.result.now in
+    let x = c.index_mut.result.now in
     let y = c.give.new.self in
     let t = ring_given (ring_of x) (ring_of y) c.args.page c.give.result x.neat c.give.ensures.answer c.give.ensures.after in
     record {

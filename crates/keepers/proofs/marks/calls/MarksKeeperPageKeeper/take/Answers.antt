@@ -12,7 +12,7 @@ pub returns : goal.returns
 returns c =
     let xs = vec_items c.args.self.now.rows in
     let g = c.args.guest in
-    let x = c.index-mut.result.now in
+    let x = c.index_mut.result.now in
     let y = c.take.new.self in
     let o : is_guest g ≡ true = search rules in
     record {

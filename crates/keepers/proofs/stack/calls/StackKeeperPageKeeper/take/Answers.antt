@@ -8,6 +8,6 @@ pub returns : goal.returns
 returns c =
     let xs = vec_items c.args.self.now.stacks in
     record {
-      taken = kept_taken stack_share xs (search rules) c.args.guest (search rules) c.index-mut.result.now (search rules) c.take.result c.take.new.self c.take.ensures.taken;
-      chosen = top_taken newest_last xs (search rules) c.args.guest (search rules) c.index-mut.result.now (search rules) c.take.new.self c.take.result c.take.ensures.stack;
+      taken = kept_taken stack_share xs (search rules) c.args.guest (search rules) c.index_mut.result.now (search rules) c.take.result c.take.new.self c.take.ensures.taken;
+      chosen = top_taken newest_last xs (search rules) c.args.guest (search rules) c.index_mut.result.now (search rules) c.take.new.self c.take.result c.take.ensures.stack;
     }
