@@ -9,7 +9,7 @@ returns-then-step c =
       answer = stopped (state c.commands.session) (c.commands.i + 1) (vec_items c.args.script.now.commands) c.args.script.now.ending c.commands.i _ (vec_items c.commands.lines) c.commands.invariant.0
           c.index-command.result.now (omega (arith, c.args.script.now.commands.ok.0, c.commands-test.true, c.len-i-end.ensures)) c.index-command.ensures
           (record { after = state c.perform-step.new.self; step = c.perform-step.result }) c.perform-step.ensures.after c.perform-step.ensures.answer
-          c.kind.result c.kind.ensures.answer (vec_items c.push-reserved.new.self) c.push-reserved.ensures.items c.if-step.true;
+          c.kind.result c.kind.ensures.answer (vec_items c.push_reserved.new.self) c.push_reserved.ensures.items c.if-step.true;
     }
 
 pub commands-preserved : goal.commands-preserved
@@ -17,7 +17,7 @@ commands-preserved c = (
   went_on (state c.commands.session) (c.commands.i + 1) (vec_items c.args.script.now.commands) c.args.script.now.ending c.commands.i _ (vec_items c.commands.lines) c.commands.invariant.0
       c.index-command.result.now (omega (arith, c.args.script.now.commands.ok.0, c.commands-test.true, c.len-i-end.ensures)) c.index-command.ensures
       (record { after = state c.perform-step.new.self; step = c.perform-step.result }) c.perform-step.ensures.after c.perform-step.ensures.answer
-      c.kind.result c.kind.ensures.answer (vec_items c.push-reserved.new.self) c.push-reserved.ensures.items c.if-step.false,
+      c.kind.result c.kind.ensures.answer (vec_items c.push_reserved.new.self) c.push_reserved.ensures.items c.if-step.false,
   omega arith,
   omega arith,
 )
@@ -34,7 +34,7 @@ returns c =
     record {
       answer = ended_refused (state c.commands.session) (c.commands.i + 1) (vec_items c.args.script.now.commands) c.args.script.now.ending c.commands.i _ (vec_items c.commands.lines) c.commands.invariant.0
           (omega (arith, c.args.script.now.commands.ok.0, c.commands-test.false, c.len-i-end.ensures))
-          (c.len-in-Refused.result + 1) c.in-Refused.kind c.in-Refused.refusal c.known-refusal.result c.in-Refused.is
-          (omega (arith, c.commands-test.false, c.len-i-end.ensures, c.len-in-Refused.ensures, c.commands.auto.i-end)) c.known-refusal.ensures.answer
-          (vec_items c.push-reserved-in-Refused.new.self) c.push-reserved-in-Refused.ensures.items;
+          (c.len-in-Refused.result + 1) c.in-Refused.kind c.in-Refused.refusal c.known_refusal.result c.in-Refused.is
+          (omega (arith, c.commands-test.false, c.len-i-end.ensures, c.len-in-Refused.ensures, c.commands.auto.i-end)) c.known_refusal.ensures.answer
+          (vec_items c.push_reserved-in-Refused.new.self) c.push_reserved-in-Refused.ensures.items;
     }

@@ -9,6 +9,6 @@ loop-i-init c = sym (admit_none (state c.args.self.now))
 
 pub loop-i-preserved : goal.loop-i-preserved
 loop-i-preserved c =
-    c.admit-pooled.ensures.after
+    c.admit_pooled.ensures.after
     ∙ ap (λ (s : State). admit_one s (c.loop-i.i + 1)) c.loop-i.invariant
     ∙ sym (admit_more (state c.args.self.now) c.loop-i.i)

@@ -19,6 +19,6 @@ returns-then-self c =
 pub returns-else-self : goal.returns-else-self
 returns-else-self c =
     let s = state c.args.self.now in
-    let a = c.set-up.ensures.answer in
-    let b = c.set-up.ensures.after in
-    record { answer = a; after = b; same = same s (state c.set-up.new.self) c.set-up.result c.args.command a b }
+    let a = c.set_up.ensures.answer in
+    let b = c.set_up.ensures.after in
+    record { answer = a; after = b; same = same s (state c.set_up.new.self) c.set_up.result c.args.command a b }
