@@ -34,8 +34,8 @@ const SECTIONS: [(Word, End, End); 8] = [
 fn sections_by_permission(rt: HostRuntime) -> Result<(), Fail> {
     let mut machine = Machine::new(rt.alloc(), FIRST)?;
     for (word, read, write) in SECTIONS {
-        machine.put(0, ROOT_PLACE, word)?;
-        machine.ends(Paging::On(FIRST), 0x0050_2ABC, read, write)?;
+        machine.put(&rt, 0, ROOT_PLACE, word)?;
+        machine.ends(&rt, Paging::On(FIRST), 0x0050_2ABC, read, write)?;
     }
     Ok(())
 }
@@ -72,10 +72,10 @@ const PAGES: [(Word, End, End); 24] = [
 #[test]
 fn pages_by_permission(rt: HostRuntime) -> Result<(), Fail> {
     let mut machine = Machine::new(rt.alloc(), FIRST)?;
-    machine.put(0, ROOT_PLACE, TABLE)?;
+    machine.put(&rt, 0, ROOT_PLACE, TABLE)?;
     for (word, read, write) in PAGES {
-        machine.put(1, TABLE_PLACE + 3, word)?;
-        machine.ends(Paging::On(FIRST), 0x0050_3ABC, read, write)?;
+        machine.put(&rt, 1, TABLE_PLACE + 3, word)?;
+        machine.ends(&rt, Paging::On(FIRST), 0x0050_3ABC, read, write)?;
     }
     Ok(())
 }
@@ -84,15 +84,21 @@ fn pages_by_permission(rt: HostRuntime) -> Result<(), Fail> {
 #[test]
 fn a_large_page_at_each_place(rt: HostRuntime) -> Result<(), Fail> {
     let mut machine = Machine::new(rt.alloc(), FIRST)?;
-    machine.put(0, ROOT_PLACE, TABLE)?;
+    machine.put(&rt, 0, ROOT_PLACE, TABLE)?;
     for i in 0..16u32 {
-        machine.put(1, TABLE_PLACE + i, 0x0011_0031)?;
+        machine.put(&rt, 1, TABLE_PLACE + i, 0x0011_0031)?;
     }
     for i in 0..16u32 {
         let end = Maps(16 + i, 2);
-        machine.ends(Paging::On(FIRST), 0x0050_0000 + i * 0x1000, end, end)?;
+        machine.ends(&rt, Paging::On(FIRST), 0x0050_0000 + i * 0x1000, end, end)?;
     }
-    machine.ends(Paging::On(FIRST), 0x0051_0000, Aborts(0x07), Aborts(0x07))
+    machine.ends(
+        &rt,
+        Paging::On(FIRST),
+        0x0051_0000,
+        Aborts(0x07),
+        Aborts(0x07),
+    )
 }
 
 // A word of each level, and the fault that reads and writes take: an entry that is invalid or a supersection; a table
@@ -119,12 +125,24 @@ const BASES: [Page; 7] = [0, 255, 290, 260, 261, 288, 0xFFFF_FFFF];
 fn words_that_abort_and_tables_that_cannot_be_read(rt: HostRuntime) -> Result<(), Fail> {
     let mut machine = Machine::new(rt.alloc(), FIRST)?;
     for (first, second, code) in FAULTS {
-        machine.put(0, ROOT_PLACE, first)?;
-        machine.put(1, TABLE_PLACE + 2, second)?;
-        machine.ends(Paging::On(FIRST), 0x0050_2000, Aborts(code), Aborts(code))?;
+        machine.put(&rt, 0, ROOT_PLACE, first)?;
+        machine.put(&rt, 1, TABLE_PLACE + 2, second)?;
+        machine.ends(
+            &rt,
+            Paging::On(FIRST),
+            0x0050_2000,
+            Aborts(code),
+            Aborts(code),
+        )?;
     }
     for base in BASES {
-        machine.ends(Paging::On(base), 0x0050_2000, Aborts(0x0C), Aborts(0x0C))?;
+        machine.ends(
+            &rt,
+            Paging::On(base),
+            0x0050_2000,
+            Aborts(0x0C),
+            Aborts(0x0C),
+        )?;
     }
     Ok(())
 }
@@ -152,8 +170,8 @@ const LANDINGS: [(Word, Address, End, End); 14] = [
 fn the_book_the_memory_and_the_window_have_the_last_word(rt: HostRuntime) -> Result<(), Fail> {
     let mut machine = Machine::new(rt.alloc(), FIRST)?;
     for (word, va, read, write) in LANDINGS {
-        machine.put(0, ROOT_PLACE, word)?;
-        machine.ends(Paging::On(FIRST), va, read, write)?;
+        machine.put(&rt, 0, ROOT_PLACE, word)?;
+        machine.ends(&rt, Paging::On(FIRST), va, read, write)?;
     }
     Ok(())
 }
@@ -179,7 +197,7 @@ const UNPAGED: [(Page, Address, End, End); 12] = [
 fn with_paging_off_the_book_gives_the_right(rt: HostRuntime) -> Result<(), Fail> {
     for (first, va, read, write) in UNPAGED {
         let machine = Machine::new(rt.alloc(), first)?;
-        machine.ends(Paging::Off, va, read, write)?;
+        machine.ends(&rt, Paging::Off, va, read, write)?;
     }
     Ok(())
 }
@@ -189,10 +207,10 @@ fn with_paging_off_the_book_gives_the_right(rt: HostRuntime) -> Result<(), Fail>
 fn no_guest_has_an_address_past_the_limit(rt: HostRuntime) -> Result<(), Fail> {
     let mut machine = Machine::new(rt.alloc(), 0x3_FFFF)?;
     let paging = Paging::On(0x3_FFFF);
-    machine.put(0, 1023, 0x3FF0_0C02)?;
-    machine.ends(paging, 0x3FFF_FFFF, Maps(0, 2), Maps(0, 2))?;
-    machine.ends(paging, 0x4000_0000, Aborts(0x05), Aborts(0x05))?;
-    machine.ends(paging, 0xFFFF_FFFF, Aborts(0x05), Aborts(0x05))
+    machine.put(&rt, 0, 1023, 0x3FF0_0C02)?;
+    machine.ends(&rt, paging, 0x3FFF_FFFF, Maps(0, 2), Maps(0, 2))?;
+    machine.ends(&rt, paging, 0x4000_0000, Aborts(0x05), Aborts(0x05))?;
+    machine.ends(&rt, paging, 0xFFFF_FFFF, Aborts(0x05), Aborts(0x05))
 }
 
 // A guest, and how its read of page 3 ends with paging off, and by a section that asks for reading.
@@ -208,10 +226,10 @@ const GUESTS: [(Guest, End, End); 6] = [
 #[test]
 fn each_guest_has_its_own_rights(rt: HostRuntime) -> Result<(), Fail> {
     let mut machine = Machine::new(rt.alloc(), FIRST)?;
-    machine.put(0, ROOT_PLACE, 0x0010_8C02)?;
+    machine.put(&rt, 0, ROOT_PLACE, 0x0010_8C02)?;
     for (guest, off, on) in GUESTS {
-        machine.reads(guest, Paging::Off, 0x0010_3000, off)?;
-        machine.reads(guest, Paging::On(FIRST), 0x0050_3000, on)?;
+        machine.reads(&rt, guest, Paging::Off, 0x0010_3000, off)?;
+        machine.reads(&rt, guest, Paging::On(FIRST), 0x0050_3000, on)?;
     }
     Ok(())
 }

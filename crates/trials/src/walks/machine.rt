@@ -7,6 +7,7 @@ use platform::memory::Memory;
 use platform::units::{Address, Guest, PAGE_WORDS, Page, Place, Word};
 use platform::window::Window;
 use std::alloc::Global;
+use std::process::Abort;
 use std::test::*;
 use walk::mapping::Paging;
 use walk::translate::translate;
@@ -58,8 +59,14 @@ impl Machine {
     }
 
     // Puts a word at a place of a physical page.
-    pub fn put(&mut self, page: Page, place: Place, word: Word) -> Result<(), Fail> {
-        assert_eq!(refusal_number(self.memory.write(page, place, word)), OK);
+    pub fn put(
+        &mut self,
+        rt: &impl Abort,
+        page: Page,
+        place: Place,
+        word: Word,
+    ) -> Result<(), Fail> {
+        assert_eq!(rt; refusal_number(self.memory.write(page, place, word)), OK);
         Ok(())
     }
 
@@ -80,15 +87,29 @@ impl Machine {
     }
 
     // Checks how a guest's read of an address ends.
-    pub fn reads(&self, guest: Guest, paging: Paging, va: Address, end: End) -> Result<(), Fail> {
-        assert_eq!(self.end(guest, paging, va, Access::Read), end);
+    pub fn reads(
+        &self,
+        rt: &impl Abort,
+        guest: Guest,
+        paging: Paging,
+        va: Address,
+        end: End,
+    ) -> Result<(), Fail> {
+        assert_eq!(rt; self.end(guest, paging, va, Access::Read), end);
         Ok(())
     }
 
     // Checks how guest 1's read and its write of an address end.
-    pub fn ends(&self, paging: Paging, va: Address, read: End, write: End) -> Result<(), Fail> {
-        self.reads(1, paging, va, read)?;
-        assert_eq!(self.end(1, paging, va, Access::Write), write);
+    pub fn ends(
+        &self,
+        rt: &impl Abort,
+        paging: Paging,
+        va: Address,
+        read: End,
+        write: End,
+    ) -> Result<(), Fail> {
+        self.reads(rt, 1, paging, va, read)?;
+        assert_eq!(rt; self.end(1, paging, va, Access::Write), write);
         Ok(())
     }
 }
