@@ -1,6 +1,6 @@
 -- Tidy grants and pools: what keeps them so, and the laws of a book that follow.
-use Rattle.std.proofs.Common.{rules, arith, sym, ap, ◌∙◌, inl, inr, ⊎_elim}
-use Rattle.std.specs.Prelude.{◌≡◌, ℕ, zero, suc, ◌+◌, ◌<◌, ◌≤◌, Bool, true, false, cond, not, ◌&&◌, ◌||◌, List, [], ◌∷◌, ◌++◌, length, drop, Some, None, Option, ◌≢◌, slice_index_or, slice_set, refl}
+use Rattle.std.proofs.Common.{rules, sym, ap, ◌∙◌, ⊎_elim}
+use Rattle.std.specs.Prelude.{◌≡◌, ℕ, zero, suc, ◌+◌, ◌<◌, ◌≤◌, Bool, true, false, cond, not, ◌||◌, List, [], ◌∷◌, ◌++◌, length, drop, Some, None, Option, ◌≢◌, slice_index_or, slice_set, refl}
 use Rattle.std.proofs.lemmas.Bool.{cases_eq, and_parts, and_from}
 use Rattle.std.proofs.lemmas.List.{at_drop_more}
 use Rattle.platform.specs.declared.right.Right.{Right}
@@ -13,7 +13,7 @@ use Rattle.platform.specs.Spans.{fits_book, covers, overlaps}
 use Rattle.platform.proofs.Lists.{any_push}
 use Rattle.platform.proofs.Rights.{greater_write}
 use Rattle.books.specs.declared.grant.Grant.{Grant}
-use Rattle.books.specs.Intervals.{gives, granted, pool_covers, pooled_from, clashes, any_clash, over_grant, pool_overlaps, over_pool, pools_fit, grants_fit, tidy}
+use Rattle.books.specs.Intervals.{gives, granted, pool_covers, pooled_from, clashes, any_clash, over_grant, over_pool, pools_fit, grants_fit, tidy}
 
 -- what the grants and the pools from the i-th on give
 pub granted_step : (xs : List Grant) (i g p : ℕ) (x : Grant) → i < length xs → x ≡ slice_index_or xs i x

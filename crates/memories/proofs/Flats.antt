@@ -1,5 +1,5 @@
 -- Words in one row: one of them changed.
-use Rattle.std.proofs.Common.{◌≡◌, ℕ, ◌+◌, ◌*◌, ◌<◌, true, List, set, refl, length-set, rules}
+use Rattle.std.proofs.Common.{◌≡◌, ℕ, ◌+◌, ◌*◌, ◌<◌, true, List, set, length-set, rules}
 use Rattle.platform.specs.Memories.{put}
 use Rattle.memories.specs.Flat.{reach, flat}
 use Rattle.memories.proofs.Tables.{same_mem, get_d_set}

@@ -1,5 +1,5 @@
 -- Listed pages: what a table of pages holds, and what listing does to it.
-use Rattle.std.specs.Prelude.{ℕ, zero, suc, ◌+◌, Bool, true, false, cond, ◌&&◌, ◌||◌, List, [], ◌∷◌, is_ok, Some, None, Ok, Err, vec_items, vec_len, Option, Result, ◌==◌, nat_eq, nat_le, slice_index}
+use Rattle.std.specs.Prelude.{ℕ, zero, suc, ◌+◌, Bool, false, cond, ◌||◌, List, [], ◌∷◌, is_ok, Some, None, Ok, Err, vec_items, vec_len, Option, Result, ◌==◌, nat_eq, nat_le, slice_index}
 use Rattle.platform.specs.declared.refusal.Refusal.{Refusal}
 use Rattle.platform.specs.declared.refusal.Refusal.TheVariants.{OutOfLimits, TableFull, Conflict}
 use Rattle.platform.specs.declared.span.Span.{Span}

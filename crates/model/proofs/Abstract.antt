@@ -9,7 +9,7 @@ use Rattle.walk.specs.declared.mapping.Paging.TheVariants.{Off, On}
 use Rattle.model.specs.Boards.{Board, word_at, same_key}
 use Rattle.model.specs.Boards as board
 use Rattle.model.specs.Fills.{drop_pages}
-use Rattle.model.proofs.Plain.{Space, Regs, Guest, World, State, key_of, root_at, put, drop}
+use Rattle.model.proofs.Plain.{Space, Regs, Guest, World, State, key_of, root_at, put}
 use Rattle.model.proofs.Basics.{by_test}
 
 abbrev pub key_number : Paging → ℕ

@@ -3,7 +3,7 @@ use Rattle.std.proofs.Common.{◌≡◌, ℕ, ◌-◌, Bool, true, false, cond, 
 use borrow.Author.Tests.{eqb-false}
 use Rattle.platform.specs.Lists.{count}
 use Rattle.platform.specs.Rights.{rank}
-use Rattle.model.proofs.Plain.{World, State, key_of, at, put, enrolled, root_at, present, place, page_in, leaf_mark, new_root, new_leaf, drop, write, names, wipe, rooted, free_count, mapping_at}
+use Rattle.model.proofs.Plain.{World, State, key_of, at, put, enrolled, root_at, present, page_in, leaf_mark, new_root, new_leaf, drop, write, names, wipe, free_count, mapping_at}
 use Rattle.model.proofs.Sound.{Lawful, Role, is_root, is_leaf}
 use Rattle.model.proofs.Basics.{on, test, clash, root_leaf, by_option, by_test, at_other, at_is, put_same, put_page, put_place, taken}
 use Rattle.model.proofs.Keeps.{page_leaf, named, unnamed_root, names_in, root_listed}

@@ -1,6 +1,5 @@
 -- Two shifts that agree in a guest's list answer it alike.
 use Rattle.std.proofs.Common.{◌≡◌, ℕ, ◌/◌, ◌%◌, ◌<◌, ◌≤◌, true, false, cond, not, ◌&&◌, eqb, ltb, leb, List, ◌∷◌, length, is_some, None, Option, sym, refl, ap, ◌∙◌, subst, ap₂, ltb-true, eq-eqb, ne_eqb, eqb-true, leb-true}
-use Rattle.platform.specs.Lists.{count}
 use Rattle.platform.specs.declared.refusal.Refusal.TheVariants.{NoGuestRuns}
 use Rattle.platform.specs.declared.right.Right.{Right}
 use Rattle.platform.specs.Rights.{rank}
@@ -13,10 +12,10 @@ use Rattle.platform.specs.Windows.{Pane}
 use Rattle.model.specs.Histories.{or_else}
 use Rattle.model.specs.Shifts.{Turn, word_in}
 use Rattle.model.proofs.Cases.{and_not}
-use Rattle.model.proofs.Plain.{World, State, Regs, key_of, set_regs, failed, switched, paged, enrolled, root_at, page_in, map_word, drop, wipe, rooted, filled, free_count, mapping_at, shadow, guest_step, step, by_running}
+use Rattle.model.proofs.Plain.{World, State, Regs, key_of, set_regs, failed, switched, paged, enrolled, root_at, page_in, map_word, drop, wipe, filled, free_count, mapping_at, shadow, guest_step, step, by_running}
 use Rattle.model.proofs.Sound.{Lawful, Started}
 use Rattle.model.proofs.Runs.{Fair, FairFor, Past, Move, Event, next, Run, begun, called, stored, is_schedule, call_of, news, turns, answers}
-use Rattle.model.proofs.Basics.{on, clash, by_option, by_test}
+use Rattle.model.proofs.Basics.{clash, by_option, by_test}
 use Rattle.model.proofs.Filling.{Good}
 use Rattle.model.proofs.Keeping.{and_left, good_shift}
 use Rattle.model.proofs.Counts.{count_all, count_same}

@@ -9,10 +9,9 @@ use Rattle.model.specs.Boards as board
 use Rattle.model.specs.Fills.{Picks}
 use Rattle.model.specs.Steps as steps
 use Rattle.model.specs.Starts.{Started}
-use Rattle.model.specs.Starts as starts
 use Rattle.model.specs.Histories.{Event, History, or_else, is_done, scheduled, paging_set, base_set, page_in, is_one, runs, paging_of, base_of, key_in}
 use Rattle.model.specs.Shifts.{Shift, begun, called}
-use Rattle.model.proofs.Plain.{World, State, Guest, Regs, key_of, step, enrolled}
+use Rattle.model.proofs.Plain.{World, State, Regs, key_of, step, enrolled}
 use Rattle.model.proofs.Sound.{Lawful}
 use Rattle.model.proofs.Sound as sound
 use Rattle.model.proofs.Runs.{Past, next, Run}

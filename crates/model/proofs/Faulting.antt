@@ -10,7 +10,7 @@ use Rattle.model.specs.Boards.{Board, word_at, with_spaces, present_root}
 use Rattle.model.specs.Boards as board
 use Rattle.model.specs.Fills.{Reached, reached, and_then, Picks, take_root, leaf_taken, make_room, dropped, MayTake, FairRoot, FairRoom, FairLeaf, Where}
 use Rattle.model.specs.Fills as fills
-use Rattle.model.proofs.Plain.{World, State, enrolled, at, free_count, leaf_mark, page_in, new_root, new_leaf, drop, write, present, or_zero, place, crowded, cleared, rooted, rooted_by, roomy, leafed}
+use Rattle.model.proofs.Plain.{World, State, enrolled, free_count, leaf_mark, page_in, new_root, new_leaf, drop, write, present, or_zero, place, crowded, cleared, rooted, rooted_by, roomy, leafed}
 use Rattle.model.proofs.Sound.{Lawful}
 use Rattle.model.proofs.Basics.{by_test, by_option, clash, none_some}
 use Rattle.model.proofs.Keeps.{page_leaf}

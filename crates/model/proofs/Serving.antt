@@ -21,7 +21,6 @@ use Rattle.model.specs.declared.calls.Call.TheVariants.{Schedule, Switch, Paging
 use Rattle.model.specs.Boards.{Board}
 use Rattle.model.specs.Fills.{Picks, MayTake, WhereFound, FairRoom, FairLeaf, FairFill, Where, make_room, dropped, rooted, roomy}
 use Rattle.model.specs.Steps as steps
-use Rattle.model.specs.Histories.{runs}
 use Rattle.model.specs.Tables.{NoFaultFailsForWantOfAPage, ShadowReadsBack}
 use Rattle.model.proofs.Plain.{World, State, Regs, key_of, root_at, mapping_at, page_in, right_in, map_word, filled, walked, fault_by, shadow, step}
 use Rattle.model.proofs.Runs.{FairFault}

@@ -3,7 +3,7 @@ use Rattle.std.specs.Prelude.{◌≡◌, ℕ, ◌+◌, Bool, true, false, cond, 
 use Rattle.platform.specs.declared.refusal.Refusal.{Refusal}
 use Rattle.platform.specs.declared.refusal.Refusal.TheVariants.{GuestOutOfRange, KeeperRefuses}
 use Rattle.platform.specs.Guests.{is_guest}
-use Rattle.platform.specs.Lists.{any, any_below, count, member}
+use Rattle.platform.specs.Lists.{any_below, count, member}
 
 -- the enrolled pages of each guest, the oldest first, and which of them are free
 pub record Keep : Type 0 where

@@ -1,5 +1,5 @@
 -- The lines of a script, one command after another.
-use Rattle.std.proofs.Common.{◌≡◌, ℕ, ◌+◌, ◌<◌, ◌≤◌, Bool, true, false, cond, List, [], ◌∷◌, ◌++◌, length, get_or, drop, sym, refl, ap, ◌∙◌, append_assoc, append-nil}
+use Rattle.std.proofs.Common.{◌≡◌, ℕ, ◌+◌, ◌<◌, ◌≤◌, Bool, true, false, cond, List, [], ◌∷◌, ◌++◌, length, get_or, drop, sym, ap, ◌∙◌, append_assoc, append-nil}
 use Rattle.std.proofs.lemmas.List.{at_drop_more, at_drop_all}
 use Rattle.platform.specs.declared.refusal.Refusal.{Refusal}
 use Rattle.script.specs.declared.command.Command.{Command}
@@ -8,7 +8,6 @@ use Rattle.script.specs.declared.whole.Ending.TheVariants.{Complete, Refused}
 use Rattle.script.specs.Commands.{kind_of}
 use Rattle.listing.specs.declared.line.Line.{Line}
 use Rattle.listing.specs.declared.outcome.Outcome.{Outcome}
-use Rattle.runner.specs.declared.session.Step.{Step}
 use Rattle.runner.specs.States.{State}
 use Rattle.runner.specs.Turns.{Turn, perform}
 use Rattle.runner.specs.Reports.{line, known, last_line, turn_lines, lines_from}

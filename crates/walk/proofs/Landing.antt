@@ -1,5 +1,5 @@
 -- A walk that answers a mapping lands on a page that the guest may have.
-use Rattle.std.proofs.Common.{◌≡◌, ℕ, ◌<◌, ◌≤◌, Bool, true, false, cond, leb, ◌⊎◌, Some, None, Ok, Err, Option, Result, sym, refl, ap, subst, inl, inr, arith}
+use Rattle.std.proofs.Common.{◌≡◌, ℕ, ◌<◌, ◌≤◌, true, cond, leb, Some, None, Ok, Err, Result, sym, ap, subst, inl, inr, arith}
 use Rattle.std.proofs.lemmas.Bool.Decides.{nat_tests}
 use Rattle.std.proofs.lemmas.Bool.{leb-true, cases_eq}
 use Rattle.platform.specs.declared.access.Access.{Access}

@@ -1,5 +1,5 @@
 -- The walk answers exactly where the guest's tables lead.
-use Rattle.std.proofs.Common.{◌≡◌, ℕ, ◌/◌, ◌<◌, ◌≤◌, Bool, true, false, cond, ltb, leb, ◌⊎◌, Some, None, Ok, Err, Option, Result, sym, refl, ap, ◌∙◌, subst, inl, inr, arith}
+use Rattle.std.proofs.Common.{◌≡◌, ℕ, ◌/◌, Bool, true, cond, ltb, leb, ◌⊎◌, Ok, Err, Option, Result, sym, refl, ap, ◌∙◌, subst, inl, inr, arith}
 use Rattle.std.proofs.lemmas.Bool.{leb-true, le-leb, ltb-true, lt-ltb}
 use Rattle.platform.specs.declared.access.Access.{Access}
 use Rattle.platform.specs.declared.right.Right.{Right}
@@ -15,7 +15,7 @@ use Rattle.walk.specs.declared.mapping.Mapping.{Mapping}
 use Rattle.walk.specs.declared.mapping.Paging.{Paging}
 use Rattle.walk.specs.declared.mapping.Paging.TheVariants.{Off, On}
 use Rattle.walk.specs.Sights.{Sight, permits}
-use Rattle.walk.specs.Walks.{next, word_or, ask, ask_second, ask_entry, ask_first, asked, landed, reached, granted, walk_answer}
+use Rattle.walk.specs.Walks.{next, word_or, ask, ask_second, ask_entry, ask_first, asked, landed, reached, granted}
 use Rattle.walk.specs.Leads.{ThroughTable, Leads, MayHave, AnswersAreLedTo, WhatIsLedToIsAnswered}
 use Rattle.walk.proofs.Cases.{by_option, by_test, no_answer}
 

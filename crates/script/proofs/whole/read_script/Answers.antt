@@ -1,4 +1,4 @@
-use Rattle.std.proofs.Common.{◌≡◌, ℕ, suc, ◌+◌, ◌-◌, List, [], ◌∷◌, ◌++◌, length, drop, Ok, Err, vec_items, sym, ap, ◌∙◌, subst, arith}
+use Rattle.std.proofs.Common.{◌≡◌, ℕ, suc, ◌-◌, List, [], ◌∷◌, ◌++◌, length, drop, Ok, Err, vec_items, sym, ap, ◌∙◌, subst, arith}
 use Rattle.script.specs.Records.{reading_at, place_after, Spelled}
 use Rattle.script.specs.Readers.{left}
 use Rattle.script.specs.Scripts.{step, script_from}

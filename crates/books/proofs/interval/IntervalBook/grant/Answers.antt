@@ -1,4 +1,4 @@
-use Rattle.std.proofs.Common.{◌≡◌, List, vec_items, sym, ap, ◌∙◌, rules}
+use Rattle.std.proofs.Common.{List, vec_items, sym, ap, ◌∙◌, rules}
 use Rattle.books.specs.declared.grant.Grant.{Grant}
 use Rattle.books.specs.Intervals.{tidy}
 use Rattle.books.specs.Tidy.{tidy_grant}

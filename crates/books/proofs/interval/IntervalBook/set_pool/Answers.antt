@@ -1,4 +1,4 @@
-use Rattle.std.proofs.Common.{◌-◌, vec_items, sym, ◌∙◌, length-set, rules}
+use Rattle.std.proofs.Common.{◌-◌, vec_items, sym, rules}
 use Rattle.books.specs.Tidy.{tidy_pool}
 use Rattle.books.proofs.interval.IntervalBook.set_pool.Goals as goal
 

@@ -1,9 +1,8 @@
-use Rattle.std.proofs.Common.{◌≡◌, ℕ, ◌-◌, ◌<◌, List, get_or, replicate, ap, ◌∙◌, arith, rules}
+use Rattle.std.proofs.Common.{◌≡◌, ℕ, ◌-◌, ◌<◌, get_or, replicate, ap, ◌∙◌, arith, rules}
 use mathlib.Core.Path.{fun_ext}
 use Rattle.std.proofs.lemmas.List.{get_or-replicate}
 use Rattle.std.proofs.lemmas.Bool.Decides.{nat_tests}
-use Rattle.guests.specs.declared.record.GuestRecord.{GuestRecord}
-use Rattle.guests.specs.Rosters.{Roster, records_of, blank}
+use Rattle.guests.specs.Rosters.{records_of, blank}
 use Rattle.guests.proofs.table.Guests.new.Goals as goal
 
 all_blank : (g : ℕ) → records_of (replicate 8 blank) g ≡ blank

@@ -15,9 +15,9 @@ invariant_of-self c =
     record {
       room = search rules;
       neat =
-        ap (λ (ns : List Mark). distinct (pages_of ns)) c.push_reserved.ensures.items
-            ∙ ap distinct (pages_push ms (record { page = c.args.page; free = true }))
-            ∙ distinct_push (pages_of ms) c.args.page c.args.self.now.neat c.requires;
+          ap (λ (ns : List Mark). distinct (pages_of ns)) c.push_reserved.ensures.items
+          ∙ ap distinct (pages_push ms (record { page = c.args.page; free = true }))
+          ∙ distinct_push (pages_of ms) c.args.page c.args.self.now.neat c.requires;
     }
 
 pub returns : goal.returns

@@ -18,9 +18,9 @@ invariant_of-self c =
     record {
       room = search rules;
       neat =
-        ap (λ (xs : List ℕ). stacked xs fs') c.push_reserved.ensures.items
-            ∙ ap (stacked (vec_items s.pages ++ p ∷ [])) c.push_reserved-2.ensures.items
-            ∙ stacked_add (vec_items s.pages) (vec_items s.free) p s.neat c.requires;
+          ap (λ (xs : List ℕ). stacked xs fs') c.push_reserved.ensures.items
+          ∙ ap (stacked (vec_items s.pages ++ p ∷ [])) c.push_reserved-2.ensures.items
+          ∙ stacked_add (vec_items s.pages) (vec_items s.free) p s.neat c.requires;
     }
 
 pub returns : goal.returns

@@ -1,4 +1,4 @@
-use Rattle.std.proofs.Common.{vec_items, ap, ◌∙◌, rules}
+use Rattle.std.proofs.Common.{vec_items, ap, ◌∙◌}
 use Rattle.memories.specs.Listed.{listed}
 use Rattle.memories.proofs.Tables.{listed_blank}
 use Rattle.memories.proofs.listed.ListedPages.add_blank.Goals as goal

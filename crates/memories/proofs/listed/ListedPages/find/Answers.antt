@@ -1,4 +1,4 @@
-use Rattle.std.proofs.Common.{eqb, vec_items, sym, rules}
+use Rattle.std.proofs.Common.{eqb, vec_items, rules}
 use Rattle.platform.proofs.Lists.{any_here, any_on, any_none}
 use Rattle.memories.proofs.Tables.{place_step}
 use Rattle.memories.proofs.listed.ListedPages.find.Goals as goal

@@ -1,4 +1,4 @@
-use Rattle.std.proofs.Common.{◌≡◌, ℕ, ◌+◌, vec_len, sym, ap, ◌∙◌, arith}
+use Rattle.std.proofs.Common.{◌≡◌, ◌+◌, vec_len, sym, ap, ◌∙◌, arith}
 use Rattle.memories.specs.Listed.{Catalog, catalog, with_blank}
 use Rattle.memories.proofs.Tables.{blanks_more, blanks_count}
 use Rattle.memories.proofs.listed.ListedPages.list.Goals as goal

@@ -1,4 +1,4 @@
-use Rattle.std.proofs.Common.{vec_items, arith, rules}
+use Rattle.std.proofs.Common.{vec_items, rules}
 use Rattle.memories.proofs.Tables.{found_place, place_within, listed_put}
 use Rattle.memories.proofs.listed.ListedPages.put.Goals as goal
 

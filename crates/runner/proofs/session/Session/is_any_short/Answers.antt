@@ -1,4 +1,4 @@
-use Rattle.std.proofs.Common.{sym, arith, rules}
+use Rattle.std.proofs.Common.{sym, arith}
 use Rattle.runner.specs.States.{state}
 use Rattle.runner.proofs.Counts.{short_none, short_here, short_on}
 use Rattle.runner.proofs.session.Session.is_any_short.Goals as goal

@@ -1,4 +1,4 @@
-use Rattle.std.proofs.Common.{◌≡◌, ◌+◌, drop, vec_items, sym, ap, ◌∙◌, rules}
+use Rattle.std.proofs.Common.{◌+◌, drop, vec_items, sym, ap, ◌∙◌, rules}
 use Rattle.std.proofs.lemmas.List.{at_drop_all}
 use Rattle.platform.specs.Rights.{greater}
 use Rattle.platform.proofs.Rights.{greater_assoc, greater_nothing}
