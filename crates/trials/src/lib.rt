@@ -2,23 +2,23 @@
 #![tactic(auto)]
 
 #[cfg(test)]
-mod books;
-#[cfg(test)]
 mod calls;
 #[cfg(test)]
 mod descriptors;
 pub mod examples;
 #[cfg(test)]
-mod keepers;
-#[cfg(test)]
 mod limits;
 #[cfg(test)]
-mod memories;
+mod memory_words;
 #[cfg(test)]
 mod numbers;
+#[cfg(test)]
+mod page_keepers;
 #[cfg(test)]
 mod program;
 #[cfg(test)]
 mod records;
+#[cfg(test)]
+mod rights_books;
 #[cfg(test)]
 mod walks;
