@@ -13,7 +13,6 @@ import subprocess
 import sys
 from pathlib import Path
 
-WORD = r"[A-Za-z\u00c0-\uffff_0-9'+*≤<]"
 NAME = re.compile(r"(?<![\w'·-])[A-Za-z_][\w']*(?:-[\w']+)+(?![\w'-])")
 DEFINED = re.compile(r"^(?:(?:abbrev|unfoldable|pub|data|record|ruleset) )*(\S+) (?::|=)", re.M)
 FIELD = re.compile(r"^ +(?:pub )?(\S+) :", re.M)
