@@ -1,5 +1,5 @@
 -- The byte book: what a byte a page means.
-use Rattle.std.specs.Prelude.{ℕ, ◌/◌, ◌%◌, cond, ◌&&◌, List, ◌==◌, nat_lt, slice_index}
+use Rattle.std.specs.Prelude.{ℕ, ◌/◌, ◌%◌, cond, if◌then◌else◌, ◌&&◌, List, Some, None, Option, ◌==◌, nat_lt, slice_index}
 use Rattle.platform.specs.declared.right.Right.{Right}
 use Rattle.platform.specs.declared.right.Right.TheVariants.{Nothing, Read, Write}
 use Rattle.platform.specs.Guests.{is_guest}
@@ -14,8 +14,8 @@ abbrev pub byte_right : ℕ → ℕ → Right
 byte_right x g = cond (is_guest (x / 16)) (cond (g == x / 16) Write (cond (g == x % 16 && is_guest (x % 16)) Read Nothing)) Nothing
 
 -- with a high half of 15 the page is in the pool of the guest of the low half
-abbrev pub byte_pool : ℕ → ℕ
-byte_pool x = cond (x / 16 == 15 && is_guest (x % 16)) (x % 16) 0
+abbrev pub byte_pool : ℕ → Option ℕ
+byte_pool x = if x / 16 == 15 && is_guest (x % 16) then Some (x % 16) else None
 
 abbrev pub byte_book : List ℕ → Book
 byte_book xs = record { right = λ g p. byte_right (byte_at xs p) g; pool = λ p. byte_pool (byte_at xs p) }

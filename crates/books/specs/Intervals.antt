@@ -6,7 +6,8 @@ use Rattle.platform.specs.declared.right.Right.{Right}
 use Rattle.platform.specs.declared.right.Right.TheVariants.{Nothing, Read, Write}
 use Rattle.platform.specs.declared.span.Span.{Span}
 use Rattle.platform.specs.Guests.{is_guest}
-use Rattle.platform.specs.Lists.{any}
+use Rattle.std.specs.List.{list_any, position}
+use Rattle.std.specs.Option.{option_map}
 use Rattle.platform.specs.Rights.{greater}
 use Rattle.platform.specs.Spans.{fits_book, covers, overlaps}
 use Rattle.platform.specs.Books.{Book}
@@ -34,14 +35,13 @@ abbrev pub pool_covers : Option Span → ℕ → Bool
 pool_covers None p = false
 pool_covers (Some s) p = covers s p
 
--- the guest whose pool has a page, or 0: of pools of which the first is guest g's
-abbrev pub pooled_from : ℕ → List (Option Span) → ℕ → ℕ
-pooled_from g [] p = 0
-pooled_from g (o ∷ os) p = cond (pool_covers o p) g (pooled_from (g + 1) os p)
+-- the guest whose pool has a page, if any: the first such pool names it, and the first of all is guest 1's
+abbrev pub pool_at : List (Option Span) → ℕ → Option ℕ
+pool_at os p = option_map (λ i. i + 1) (position (λ o. pool_covers o p) os)
 
 -- what the book means
 abbrev pub book_of : Ledger → Book
-book_of l = record { right = granted l.grants; pool = pooled_from 1 l.pools }
+book_of l = record { right = granted l.grants; pool = pool_at l.pools }
 
 abbrev pub is_write : Right → Bool
 is_write Nothing = false
@@ -58,11 +58,11 @@ abbrev pub clashes : Grant → Grant → Bool
 clashes x y = not (x.guest == y.guest) && (overlaps x.span y.span && (is_write x.right && is_write y.right))
 
 abbrev pub any_clash : List Grant → Grant → Bool
-any_clash xs y = any (λ x. clashes x y) xs
+any_clash xs y = list_any (λ x. clashes x y) xs
 
 -- some grant lies over a span
 abbrev pub over_grant : List Grant → Span → Bool
-over_grant xs s = any (λ x. overlaps x.span s) xs
+over_grant xs s = list_any (λ x. overlaps x.span s) xs
 
 -- a pool, if any, lies over a span
 abbrev pub pool_overlaps : Option Span → Span → Bool
@@ -70,7 +70,7 @@ pool_overlaps None s = false
 pool_overlaps (Some t) s = overlaps t s
 
 abbrev pub over_pool : List (Option Span) → Span → Bool
-over_pool os s = any (λ o. pool_overlaps o s) os
+over_pool os s = list_any (λ o. pool_overlaps o s) os
 
 -- a guest has a pool
 abbrev pub has_pool : List (Option Span) → ℕ → Bool

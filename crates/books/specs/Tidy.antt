@@ -1,39 +1,20 @@
 -- Tidy grants and pools: what keeps them so, and the laws of a book that follow.
-use Rattle.std.proofs.Common.{rules, sym, ap, ◌∙◌, ⊎_elim}
-use Rattle.std.specs.Prelude.{◌≡◌, ℕ, zero, suc, ◌+◌, ◌<◌, ◌≤◌, Bool, true, false, cond, not, ◌||◌, List, [], ◌∷◌, ◌++◌, length, drop, Some, None, Option, ◌≢◌, slice_index_or, slice_set, refl}
-use Rattle.std.proofs.lemmas.Bool.{cases_eq, and_parts, and_from}
-use Rattle.std.proofs.lemmas.List.{at_drop_more}
-use Rattle.platform.specs.declared.right.Right.{Right}
+use Rattle.std.proofs.Common.{rules, sym, ◌∙◌, ⊎_elim}
+use Rattle.std.specs.Prelude.{◌≡◌, ℕ, zero, suc, ◌≤◌, true, false, List, [], ◌∷◌, ◌++◌, Some, None, Option, ◌≢◌, slice_set, refl}
+use Rattle.std.proofs.lemmas.Bool.{cases_eq, and_parts, and_from, or_parts}
 use Rattle.platform.specs.declared.right.Right.TheVariants.{Nothing, Write}
 use Rattle.platform.specs.declared.span.Span.{Span}
 use Rattle.platform.specs.Guests.{is_guest}
-use Rattle.platform.specs.Lists.{any}
-use Rattle.platform.specs.Rights.{greater}
+use Rattle.std.specs.List.{list_any}
 use Rattle.platform.specs.Spans.{fits_book, covers, overlaps}
-use Rattle.platform.proofs.Lists.{any_push}
+use Rattle.std.proofs.lemmas.List.Folds.{list_any-append}
 use Rattle.platform.proofs.Rights.{greater_write}
 use Rattle.books.specs.declared.grant.Grant.{Grant}
-use Rattle.books.specs.Intervals.{gives, granted, pool_covers, pooled_from, clashes, any_clash, over_grant, over_pool, pools_fit, grants_fit, tidy}
-
--- what the grants and the pools from the i-th on give
-pub granted_step : (xs : List Grant) (i g p : ℕ) (x : Grant) → i < length xs → x ≡ slice_index_or xs i x
-    → granted (drop i xs) g p ≡ greater (gives x g p) (granted (drop (i + 1) xs) g p)
-granted_step xs i g p x l e =
-    at_drop_more (λ ys. granted ys g p) xs i x l ∙ ap (λ (y : Grant). greater (gives y g p) (granted (drop (i + 1) xs) g p)) (sym e)
-
-pub pooled_step : (os : List (Option Span)) (i g p : ℕ) → i < length os
-    → pooled_from g (drop i os) p ≡ cond (pool_covers (slice_index_or os i None) p) g (pooled_from (g + 1) (drop (i + 1) os) p)
-pooled_step os i g p l = at_drop_more (λ ys. pooled_from g ys p) os i None l
+use Rattle.books.specs.Intervals.{gives, granted, pool_covers, pool_at, clashes, any_clash, over_grant, over_pool, pools_fit, grants_fit, tidy}
 
 -- one grant more
 clash_sym : (x y : Grant) → clashes x y ≡ clashes y x
 clash_sym x y = search rules
-
-neither : (a b c : Bool) → a ≡ false → b ≡ false → c ≡ (a || b) → not c ≡ true
-neither a b c x y e = search rules
-
-or_parts : (a b : Bool) → (a || b) ≡ false → (a ≡ false) × (b ≡ false)
-or_parts a b e = search rules
 
 -- what a tidy list says of its first grant and of the others
 record Fits (x : Grant) (xs : List Grant) (os : List (Option Span)) : Type 0 where
@@ -56,7 +37,7 @@ grants_push [] os y t g s a c = fits_first y [] os (record { guest = g; span = s
 grants_push (x ∷ xs) os y t g s a c =
     let f = first_fits x xs os t in
     let b = or_parts (clashes x y) (any_clash xs y) a in
-    let n = any_push (λ z. clashes z x) xs y in
+    let n = list_any-append (λ z. clashes z x) xs (y ∷ []) in
     let m : any_clash (xs ++ y ∷ []) x ≡ false = let e = f.alone in let d = clash_sym y x ∙ b.0 in search rules in
     fits_first x (xs ++ y ∷ []) os (record { guest = f.guest; span = f.span; alone = m; clear = f.clear; rest = grants_push xs os y f.rest g s b.1 c })
 
@@ -96,50 +77,46 @@ tidy_pool xs os i s t f a =
     and_from (pools_fit (slice_set os i (Some s))) (grants_fit xs (slice_set os i (Some s))) (pools_set os i s p.0 f) (grants_set xs os i s p.1 a)
 
 -- grants that do not reach a guest and a page give nothing
-nothing_more : (a b : Right) → a ≡ Nothing → b ≡ Nothing → greater a b ≡ Nothing
-nothing_more a b e f = ap (λ (x : Right). greater x b) e ∙ f
-
 far_grants : (xs : List Grant) (os : List (Option Span)) (g p : ℕ) → grants_fit xs os ≡ true → 65536 ≤ p → granted xs g p ≡ Nothing
 far_grants [] os g p t l = refl
 far_grants (x ∷ xs) os g p t l =
     let f = first_fits x xs os t in
     let n : gives x g p ≡ Nothing = let s = f.span in search rules in
-    nothing_more (gives x g p) (granted xs g p) n (far_grants xs os g p f.rest l)
-
-far_pools : (os : List (Option Span)) (g p : ℕ) → pools_fit os ≡ true → 65536 ≤ p → pooled_from g os p ≡ 0
-far_pools [] g p t l = refl
-far_pools (None ∷ os) g p t l = far_pools os (g + 1) p t l
-far_pools (Some s ∷ os) g p t l =
-    let f = and_parts (fits_book s) (pools_fit os) t in
-    let h = far_pools os (g + 1) p f.1 l in
-    let a = f.0 in
+    let h = far_grants xs os g p f.rest l in
     search rules
 
+far_pools : (os : List (Option Span)) (p : ℕ) → pools_fit os ≡ true → 65536 ≤ p → list_any (λ o. pool_covers o p) os ≡ false
+far_pools [] p t l = refl
+far_pools (None ∷ os) p t l = far_pools os p t l
+far_pools (Some s ∷ os) p t l = let h = far_pools os p in search rules
+
+-- a page in no pool names no guest
+in_no_pool : (os : List (Option Span)) (p : ℕ) → list_any (λ o. pool_covers o p) os ≡ false → pool_at os p ≡ None
+in_no_pool [] p e = refl
+in_no_pool (o ∷ os) p e = let h = in_no_pool os p in search rules
+
 pub far : (xs : List Grant) (os : List (Option Span)) (g p : ℕ) → tidy xs os ≡ true → 65536 ≤ p
-    → (granted xs g p ≡ Nothing) × (pooled_from 1 os p ≡ 0)
+    → (granted xs g p ≡ Nothing) × (pool_at os p ≡ None)
 far xs os g p t l =
     let f = and_parts (pools_fit os) (grants_fit xs os) t in
-    (far_grants xs os g p f.1 l, far_pools os 1 p f.0 l)
+    (far_grants xs os g p f.1 l, in_no_pool os p (far_pools os p f.0 l))
 
 strangers_from : (xs : List Grant) (os : List (Option Span)) (g p : ℕ) → grants_fit xs os ≡ true → is_guest g ≡ false → granted xs g p ≡ Nothing
 strangers_from [] os g p t o = refl
 strangers_from (x ∷ xs) os g p t o =
     let f = first_fits x xs os t in
     let n : gives x g p ≡ Nothing = let s = f.guest in search rules in
-    nothing_more (gives x g p) (granted xs g p) n (strangers_from xs os g p f.rest o)
+    let h = strangers_from xs os g p f.rest o in
+    search rules
 
 pub strangers : (xs : List Grant) (os : List (Option Span)) (g p : ℕ) → tidy xs os ≡ true → is_guest g ≡ false → granted xs g p ≡ Nothing
 strangers xs os g p t o = strangers_from xs os g p (and_parts (pools_fit os) (grants_fit xs os) t).1 o
 
 -- a page that is in a pool
-in_pool : (os : List (Option Span)) (g p : ℕ) → any (λ o. pool_covers o p) os ≡ false → pooled_from g os p ≡ 0
-in_pool [] g p e = refl
-in_pool (o ∷ os) g p e = let h = in_pool os (g + 1) p in search rules
-
 meet : (s t : Span) (p : ℕ) → covers s p ≡ true → covers t p ≡ true → overlaps s t ≡ true
 meet s t p a b = search rules
 
-clear_of : (os : List (Option Span)) (s : Span) (p : ℕ) → over_pool os s ≡ false → any (λ o. pool_covers o p) os ≡ true → covers s p ≡ false
+clear_of : (os : List (Option Span)) (s : Span) (p : ℕ) → over_pool os s ≡ false → list_any (λ o. pool_covers o p) os ≡ true → covers s p ≡ false
 clear_of [] s p a b = search rules
 clear_of (None ∷ os) s p a b = clear_of os s p a b
 clear_of (Some t ∷ os) s p a b =
@@ -149,20 +126,21 @@ clear_of (Some t ∷ os) s p a b =
     let n = d.0 in
     search rules
 
-pool_grants : (xs : List Grant) (os : List (Option Span)) (g p : ℕ) → grants_fit xs os ≡ true → any (λ o. pool_covers o p) os ≡ true
+pool_grants : (xs : List Grant) (os : List (Option Span)) (g p : ℕ) → grants_fit xs os ≡ true → list_any (λ o. pool_covers o p) os ≡ true
     → granted xs g p ≡ Nothing
 pool_grants [] os g p t a = refl
 pool_grants (x ∷ xs) os g p t a =
     let f = first_fits x xs os t in
     let c = clear_of os x.span p f.clear a in
     let n : gives x g p ≡ Nothing = search rules in
-    nothing_more (gives x g p) (granted xs g p) n (pool_grants xs os g p f.rest a)
+    let h = pool_grants xs os g p f.rest a in
+    search rules
 
-pub pools : (xs : List Grant) (os : List (Option Span)) (g p : ℕ) → tidy xs os ≡ true → (pooled_from 1 os p ≢ 0) → granted xs g p ≡ Nothing
+pub pools : (xs : List Grant) (os : List (Option Span)) (g p : ℕ) → tidy xs os ≡ true → (pool_at os p ≢ None) → granted xs g p ≡ Nothing
 pools xs os g p t n =
     let f = and_parts (pools_fit os) (grants_fit xs os) t in
-    elim (any (λ o. pool_covers o p) os) as (λ v. any (λ o. pool_covers o p) os ≡ v → granted xs g p ≡ Nothing)
-    [ true ↦ (λ e. pool_grants xs os g p f.1 e) | false ↦ (λ e. absurd (n (in_pool os 1 p e))) ] refl
+    elim (list_any (λ o. pool_covers o p) os) as (λ v. list_any (λ o. pool_covers o p) os ≡ v → granted xs g p ≡ Nothing)
+    [ true ↦ (λ e. pool_grants xs os g p f.1 e) | false ↦ (λ e. absurd (n (in_no_pool os p e))) ] refl
 
 -- at most one guest may write a page
 record Writes (x : Grant) (g p : ℕ) : Type 0 where

@@ -54,16 +54,12 @@ fn right_in(byte: u8, guest: Guest) -> Right
     }
 }
 
-// The guest whose pool a byte puts its page in, or 0.
-fn pool_in(byte: u8) -> Guest
+// The guest whose pool a byte puts its page in, if any.
+fn pool_in(byte: u8) -> Option<Guest>
     ensures answer { result ≡ byte_pool byte }
 {
     let low = low_half(byte);
-    if high_half(byte) == POOL && is_guest(low) {
-        low
-    } else {
-        0
-    }
+    (high_half(byte) == POOL && is_guest(low)).then_some(low)
 }
 
 impl ByteBook {
@@ -78,12 +74,10 @@ impl ByteBook {
     fn byte(&self, page: Page) -> u8
         ensures answer { result ≡ byte_at self.now.bytes.items page }
     {
-        let i = page as usize;
-        if page < BOOK_PAGES && i < self.bytes.len() {
-            self.bytes[i]
-        } else {
-            0
+        if page >= BOOK_PAGES {
+            return 0;
         }
+        self.bytes.get(page as usize).copied().unwrap_or(0)
     }
 }
 
@@ -102,7 +96,7 @@ impl RightsBook for ByteBook {
         right_in(self.byte(page), guest)
     }
 
-    fn pool(&self, page: Page) -> Guest {
+    fn pool(&self, page: Page) -> Option<Guest> {
         pool_in(self.byte(page))
     }
 }

@@ -4,7 +4,7 @@ use platform::span::Span;
 use platform::units::Guest;
 
 // A right of one guest on pages in a row.
-#[derive(Clone, Copy)]
+#[derive(Clone, Copy, Debug, PartialEq, Eq)]
 pub struct Grant {
     pub guest: Guest,
     pub span: Span,

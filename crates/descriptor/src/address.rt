@@ -5,6 +5,8 @@ ghost use Rattle.descriptor.specs.Addresses.{first_index, second_index, page_pla
 use crate::bits::bits;
 use platform::units::{Address, Place};
 
+// kept: each of the three is one call of `bits`, and carries the format's name for the field.
+
 // The place of an address in a first-level table: bits 31 to 20.
 pub fn first_index(va: Address) -> Place
     ensures answer { result ≡ first_index va }

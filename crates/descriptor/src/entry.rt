@@ -8,7 +8,8 @@ use platform::right::Right;
 use platform::units::{Address, Page, Place, Word};
 
 // What a first-level word says at an address. Pages are guest pages in a guest's tables.
-#[derive(Clone, Copy)]
+// kept: `page` and `right` stand side by side in three cases here and are no struct: each case says what its page is.
+#[derive(Clone, Copy, Debug, PartialEq, Eq)]
 pub enum FirstLevel {
     // No translation.
     Invalid,
@@ -21,7 +22,7 @@ pub enum FirstLevel {
 }
 
 // What a second-level word says at an address.
-#[derive(Clone, Copy)]
+#[derive(Clone, Copy, Debug, PartialEq, Eq)]
 pub enum SecondLevel {
     // No translation.
     Invalid,
@@ -32,6 +33,7 @@ pub enum SecondLevel {
 }
 
 // The type of a table word: bits 1 and 0.
+// kept: a number. Each level reads it in its own way, and at once as a case of `FirstLevel` or `SecondLevel`.
 fn entry_type(word: Word) -> u32
     ensures answer { result ≡ entry_type word }
 {
@@ -44,6 +46,8 @@ fn is_supersection(word: Word) -> bool
 {
     bits(word, 18, 18) == 1
 }
+
+// kept: each of the five is one expression, and carries the format's name for what it gives; two take the same bits, of words of two levels.
 
 // The page of an address in a section: bits 31 to 20 of the word, then bits 19 to 12 of the address.
 pub fn section_page(word: Word, va: Address) -> Page

@@ -7,6 +7,7 @@ use platform::right::Right;
 use platform::units::Word;
 
 // The right that a three-bit access permission gives: 0 and 4 nothing, 1 to 3 write, the others read.
+// kept: a number. It is three bits of a word, which stand for a `Right` as soon as they are read.
 pub fn permitted(permission: u32) -> Right
     ensures answer { result ≡ permitted permission }
 {
@@ -16,6 +17,8 @@ pub fn permitted(permission: u32) -> Right
         _ => Right::Read,
     }
 }
+
+// kept: the two differ in the format's constants alone; a generic function would have these at its calls, and a `requires`.
 
 // The access permission of a section: bit 15, then bits 11 and 10.
 pub fn section_permission(word: Word) -> u32

@@ -1,5 +1,5 @@
 -- All guests' records, and what the calls that touch no table do to them.
-use Rattle.std.specs.Prelude.{ℕ, ◌-◌, ◌/◌, Bool, true, false, cond, List, is_ok, Some, None, Ok, Err, vec_items, Option, Result, ◌==◌, slice_index_or}
+use Rattle.std.specs.Prelude.{ℕ, ◌-◌, ◌/◌, Bool, true, false, cond, List, is_ok, Some, None, Ok, Err, Option, Result, ◌==◌, slice_index_or}
 use Rattle.platform.specs.declared.refusal.Refusal.{Refusal}
 use Rattle.platform.specs.declared.refusal.Refusal.TheVariants.{GuestOutOfRange, AlreadySetUp, NotAdmitted, NoGuestRuns}
 use Rattle.platform.specs.Guests.{is_guest}
@@ -20,7 +20,7 @@ abbrev pub records_of : List GuestRecord → ℕ → GuestRecord
 records_of xs g = cond (is_guest g) (slice_index_or xs (g - 1) blank) blank
 
 abbrev pub roster : Guests → Roster
-roster t = record { of = records_of (vec_items t.records); running = t.running }
+roster t = record { of = records_of t.records; running = t.running }
 
 abbrev pub fresh : Roster
 fresh = record { of = λ _. blank; running = None }

@@ -1,5 +1,5 @@
 // The records of all guests.
-ghost use Rattle.std.specs.Prelude.{◌≡◌, true, vec_len};
+ghost use Rattle.std.specs.Prelude.{◌≡◌, true};
 ghost use Rattle.guests.specs.Running.{guest_or_none};
 
 use crate::record::GuestRecord;
@@ -9,10 +9,10 @@ mod calls;
 mod setup;
 
 // The record of each guest, that of guest 1 first, and the guest that runs, if any.
+// kept: no `impl Model`. It was tried: antt finds no code for a roster as its `Value`, since that has a function in it.
 #[derive(Drop)]
 pub struct Guests {
-    records: Vec<GuestRecord>,
+    records: [GuestRecord; 8],
     running: Option<Guest>,
-    ghost eight: { vec_len records ≡ 8 },
     ghost known: { guest_or_none running ≡ true },
 }

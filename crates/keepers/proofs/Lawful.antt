@@ -129,8 +129,14 @@ taken_back k after g p (Err e) a t =
     let z = t.0 in
     absurd (search rules)
 
-pub exchanged : (k l after : Keep) (g p : ℕ) (r : Result ℕ Refusal) → Ok tt ≡ give_answer k g p → l ≡ give_after k g p → Taken l g r after
-    → Exchanged k g p r after × (is_ok r ≡ true)
-exchanged k l after g p r a e t =
-    let u : l ≡ marked k g p true = e ∙ cond-true (is_ok (give_answer k g p)) (marked k g p true) k (ap is_ok (sym a)) in
-    taken_back k after g p r (sym a) (subst (λ (x : Keep). Taken x g r after) u t)
+module _ (k l after : Keep) (g p : ℕ) (r : Result ℕ Refusal) (t : Taken l g r after) (a : Ok tt ≡ give_answer k g p) (e : l ≡ give_after k g p) where
+  both : Exchanged k g p r after × (is_ok r ≡ true)
+  both =
+      let u : l ≡ marked k g p true = e ∙ cond-true (is_ok (give_answer k g p)) (marked k g p true) k (ap is_ok (sym a)) in
+      taken_back k after g p r (sym a) (subst (λ (x : Keep). Taken x g r after) u t)
+
+  pub exchanged : Exchanged k g p r after
+  exchanged = both.0
+
+  pub serves : is_ok r ≡ true
+  serves = both.1

@@ -1,28 +1,35 @@
 -- One guest's marks: finding one, changing one, adding one, and counting the free ones.
-use Rattle.std.proofs.Common.{◌≡◌, ℕ, zero, suc, ◌+◌, ◌<◌, ◌≤◌, Bool, true, false, cond, ◌&&◌, ◌||◌, eqb, List, [], ◌∷◌, ◌++◌, length, get_or, drop, set, Some, None, sym, refl, ap, ◌∙◌, rules}
-use Rattle.std.proofs.lemmas.List.{drop_more, drop_all}
-use Rattle.platform.specs.Lists.{any, member, count}
+use Rattle.std.proofs.Common.{◌≡◌, ℕ, zero, suc, ◌+◌, ◌<◌, Bool, true, false, cond, ◌&&◌, ◌||◌, eqb, nat_lt, List, [], ◌∷◌, ◌++◌, length, get_or, get_or-drop, drop, set, Some, None, sym, refl, ap, ◌∙◌, rules}
+use Rattle.std.proofs.lemmas.List.Sums.{passes_at_first}
+use Rattle.std.proofs.lemmas.List.Recursion.{is_count_by}
+use Rattle.std.specs.List.{list_any, position_or_len, count_by}
+use Rattle.platform.specs.Lists.{member, count}
 use Rattle.keepers.specs.declared.mark.Mark.{Mark}
-use Rattle.keepers.specs.Rows.{pages_of, is_free, place_of, found_at, first_free, free_from, round_place, page_at, set_free}
+use Rattle.keepers.specs.Meanings.{pages_push, set_pages}
+use Rattle.keepers.specs.Rows.{pages_of, is_free, place_of, found_at, free_from, round_place, page_at, set_free}
 use Rattle.keepers.specs.Sets.{distinct}
-
--- the rest of a row from its i-th mark on
-pub row_step : (ms : List Mark) (i : ℕ) (x : Mark) → i < length ms → x ≡ get_or ms i x → drop i ms ≡ x ∷ drop (i + 1) ms
-row_step ms i x l e = drop_more ms i x l ∙ ap (λ (y : Mark). y ∷ drop (i + 1) ms) (sym e)
+use Rattle.keepers.proofs.Sets.{distinct_push}
 
 pub pages_length : (ms : List Mark) → length (pages_of ms) ≡ length ms
 pages_length [] = refl
 pages_length (m ∷ ms) = let h = pages_length ms in search rules
 
-pub pages_push : (ms : List Mark) (m : Mark) → pages_of (ms ++ m ∷ []) ≡ pages_of ms ++ m.page ∷ []
-pages_push [] m = refl
-pages_push (x ∷ ms) m = ap (λ (ps : List ℕ). x.page ∷ ps) (pages_push ms m)
+-- some item passes where a first one is found
+any_within : {A : Type 0} (f : A → Bool) (xs : List A) → nat_lt (position_or_len f xs) (length xs) ≡ list_any f xs
+any_within f [] = refl
+any_within f (x ∷ xs) = let h = any_within f xs in search rules
 
-pub place_within : (ms : List Mark) (p : ℕ) → member p (pages_of ms) ≡ true → place_of ms p < length ms
-place_within [] p e = search rules
-place_within (m ∷ ms) p e = let h = place_within ms p in search rules
+pages_any : (ms : List Mark) (p : ℕ) → list_any (λ m. eqb m.page p) ms ≡ member p (pages_of ms)
+pages_any [] p = refl
+pages_any (m ∷ ms) p = let h = pages_any ms p in search rules
 
-pub page_place : (ms : List Mark) (p : ℕ) → member p (pages_of ms) ≡ true → page_at ms (place_of ms p) ≡ p
+pub found_within : (ms : List Mark) (p : ℕ) → nat_lt (place_of ms p) (length ms) ≡ member p (pages_of ms)
+found_within ms p = any_within (λ (m : Mark). eqb m.page p) ms ∙ pages_any ms p
+
+place_within : (ms : List Mark) (p : ℕ) → member p (pages_of ms) ≡ true → place_of ms p < length ms
+place_within ms p e = let w = found_within ms p in search rules
+
+page_place : (ms : List Mark) (p : ℕ) → member p (pages_of ms) ≡ true → page_at ms (place_of ms p) ≡ p
 page_place [] p e = search rules
 page_place (m ∷ ms) p e = let h = page_place ms p in search rules
 
@@ -41,7 +48,7 @@ page_within [] i l = search rules
 page_within (m ∷ ms) zero l = search rules
 page_within (m ∷ ms) (suc i) l = let h = page_within ms i (search rules) in search rules
 
-pub free_read : (ms : List Mark) (i : ℕ) (x : Mark) → distinct (pages_of ms) ≡ true → i < length ms → x ≡ get_or ms i x → is_free ms (page_at ms i) ≡ x.free
+free_read : (ms : List Mark) (i : ℕ) (x : Mark) → distinct (pages_of ms) ≡ true → i < length ms → x ≡ get_or ms i x → is_free ms (page_at ms i) ≡ x.free
 free_read [] i x d l e = search rules
 free_read (m ∷ ms) zero x d l e =
     let n = free_stranger ms m.page in
@@ -58,11 +65,6 @@ set_is [] i x b l e = refl
 set_is (m ∷ ms) zero x b l e = ap (λ (y : Mark). (record { page = y.page; free = b }) ∷ ms) e
 set_is (m ∷ ms) (suc i) x b l e = ap (λ (ns : List Mark). m ∷ ns) (set_is ms i x b (search rules) e)
 
-pub set_pages : (ms : List Mark) (i : ℕ) (b : Bool) → pages_of (set_free ms i b) ≡ pages_of ms
-set_pages [] i b = refl
-set_pages (m ∷ ms) zero b = refl
-set_pages (m ∷ ms) (suc i) b = ap (λ (ps : List ℕ). m.page ∷ ps) (set_pages ms i b)
-
 pub set_frees : (ms : List Mark) (i : ℕ) (b : Bool) (q : ℕ) → distinct (pages_of ms) ≡ true → i < length ms
     → is_free (set_free ms i b) q ≡ cond (eqb q (page_at ms i)) b (is_free ms q)
 set_frees [] i b q d l = search rules
@@ -76,64 +78,39 @@ pub neat_set : (ms : List Mark) (i : ℕ) (x : Mark) (b : Bool) → distinct (pa
     → distinct (pages_of (set ms i (record { page = x.page; free = b }))) ≡ true
 neat_set ms i x b d l e = ap (λ (ns : List Mark). distinct (pages_of ns)) (set_is ms i x b l e) ∙ ap distinct (set_pages ms i b) ∙ d
 
--- a page is found where its mark stands
-pub record Found (ms : List Mark) (p i : ℕ) : Type 0 where
-  pub has : member p (pages_of ms) ≡ true
-  pub place : i ≡ place_of ms p
-  pub within : i < length ms
-  pub page : page_at ms i ≡ p
+-- a mark of a page that has none
+pub neat_push : (ms : List Mark) (p : ℕ) (b : Bool) → distinct (pages_of ms) ≡ true → member p (pages_of ms) ≡ false
+    → distinct (pages_of (ms ++ (record { page = p; free = b }) ∷ [])) ≡ true
+neat_push ms p b d m = ap distinct (pages_push ms (record { page = p; free = b })) ∙ distinct_push (pages_of ms) p d m
 
-pub found : (ms : List Mark) (p i : ℕ) → Some i ≡ found_at ms p → Found ms p i
-found ms p i e =
+-- the mark of a page that is found
+pub free_is : (ms : List Mark) (p i : ℕ) (x : Mark) → distinct (pages_of ms) ≡ true → Some i ≡ found_at ms p → x ≡ get_or ms i x → is_free ms p ≡ x.free
+free_is ms p i x d e r =
+    let t = found_within ms p in
     let m : member p (pages_of ms) ≡ true = search rules in
     let q : i ≡ place_of ms p = search rules in
     let w = place_within ms p m in
-    record { has = m; place = q; within = search rules; page = ap (page_at ms) q ∙ page_place ms p m }
+    ap (is_free ms) (sym (ap (page_at ms) q ∙ page_place ms p m)) ∙ free_read ms i x d (search rules) r
 
 -- the first free mark from a place on
-pub free_here : (ms : List Mark) (i : ℕ) (x : Mark) → i < length ms → x ≡ get_or ms i x → x.free ≡ true → free_from ms i ≡ Some i
-free_here ms i x l e t =
-    let a = ap (λ (ns : List Mark). any (λ m. m.free) ns) (row_step ms i x l e) in
-    let b = ap first_free (row_step ms i x l e) in
-    search rules
+-- a mark past the end
+abbrev past : Mark
+past = record { page = 0; free = false }
 
-pub free_on : (ms : List Mark) (i : ℕ) (x : Mark) → i < length ms → x ≡ get_or ms i x → x.free ≡ false → free_from ms i ≡ free_from ms (i + 1)
-free_on ms i x l e t =
-    let a = ap (λ (ns : List Mark). any (λ m. m.free) ns) (row_step ms i x l e) in
-    let b = ap first_free (row_step ms i x l e) in
-    search rules
-
-pub free_none : (ms : List Mark) (i : ℕ) → length ms ≤ i → free_from ms i ≡ None
-free_none ms i l = let a = ap (λ (ns : List Mark). any (λ m. m.free) ns) (drop_all i ms l) in search rules
-
-free_at : List Mark → ℕ → Bool
-free_at [] i = false
-free_at (m ∷ ms) zero = m.free
-free_at (m ∷ ms) (suc i) = free_at ms i
-
-free_first : (ms : List Mark) → any (λ m. m.free) ms ≡ true → free_at ms (first_free ms) ≡ true
-unfolding free_at
-free_first [] e = search rules
-free_first (m ∷ ms) e = let h = free_first ms in search rules
-
-free_drop : (ms : List Mark) (n i : ℕ) → free_at (drop n ms) i ≡ free_at ms (n + i)
-unfolding free_at
-free_drop ms zero i = search rules
-free_drop [] (suc n) i = search rules
-free_drop (m ∷ ms) (suc n) i = let h = free_drop ms n i in search rules
-
-free_found : (ms : List Mark) (n i : ℕ) → free_from ms n ≡ Some i → free_at ms i ≡ true
+free_found : (ms : List Mark) (n i : ℕ) → free_from ms n ≡ Some i → (get_or ms i past).free ≡ true
 free_found ms n i e =
-    let h = free_first (drop n ms) in
-    let d = free_drop ms n (first_free (drop n ms)) in
-    search rules
+    let k = position_or_len (λ (m : Mark). m.free) (drop n ms) in
+    let w : k < length (drop n ms) = search rules in
+    let q : i ≡ n + k = search rules in
+    ap (λ (j : ℕ). (get_or ms j past).free) q
+    ∙ ap (λ (m : Mark). m.free) (sym (get_or-drop n ms k past))
+    ∙ passes_at_first (λ (m : Mark). m.free) (drop n ms) past w
 
 pub record FreeAt (ms : List Mark) (i : ℕ) : Type 0 where
   pub within : i < length ms
   pub free : is_free ms (page_at ms i) ≡ true
 
-at_free : (ms : List Mark) (i : ℕ) → free_at ms i ≡ true → FreeAt ms i
-unfolding free_at
+at_free : (ms : List Mark) (i : ℕ) → (get_or ms i past).free ≡ true → FreeAt ms i
 at_free [] i e = record { within = search rules; free = search rules }
 at_free (m ∷ ms) zero e = record { within = search rules; free = search rules }
 at_free (m ∷ ms) (suc i) e =
@@ -146,10 +123,10 @@ at_free (m ∷ ms) (suc i) e =
 pub round_free : (ms : List Mark) (n i : ℕ) → round_place ms n ≡ Some i → FreeAt ms i
 round_free ms n i e = let a = free_found ms n i in let b = free_found ms 0 i in at_free ms i (search rules)
 
-pub round_none : (ms : List Mark) (n : ℕ) → round_place ms n ≡ None → any (λ m. m.free) ms ≡ false
-round_none ms n e = let f = free_from ms n in search rules
+pub round_none : (ms : List Mark) (n : ℕ) → round_place ms n ≡ None → list_any (λ m. m.free) ms ≡ false
+round_none ms n e = let f = free_from ms n in let h = any_within (λ (m : Mark). m.free) ms in search rules
 
-pub count_nothing : {A : Type 0} (t : A → Bool) (xs : List A) → any t xs ≡ false → count t xs ≡ 0
+pub count_nothing : {A : Type 0} (t : A → Bool) (xs : List A) → list_any t xs ≡ false → count t xs ≡ 0
 count_nothing t [] a = refl
 count_nothing t (x ∷ xs) a = let h = count_nothing t xs in search rules
 
@@ -166,6 +143,7 @@ free_pages (m ∷ ms) d =
     let s = count_stranger m.page m.free (is_free ms) (pages_of ms) in
     search rules
 
-pub count_step : (ms : List Mark) (i : ℕ) (x : Mark) → i < length ms → x ≡ get_or ms i x
-    → count (λ m. m.free) (drop i ms) ≡ cond x.free (1 + count (λ m. m.free) (drop (i + 1) ms)) (count (λ m. m.free) (drop (i + 1) ms))
-count_step ms i x l e = ap (λ (ns : List Mark). count (λ m. m.free) ns) (row_step ms i x l e)
+-- std's count counts the same
+pub free_counted : (ms : List Mark) → distinct (pages_of ms) ≡ true → count_by (λ m. m.free) ms ≡ count (is_free ms) (pages_of ms)
+free_counted ms d =
+    sym (is_count_by (λ ns. count (λ m. m.free) ns) (λ m. m.free) refl (λ x xs. refl) ms) ∙ sym (free_pages ms d)

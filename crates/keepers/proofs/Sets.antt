@@ -1,14 +1,14 @@
 -- Lists of page numbers as sets: one number more, one number less, and how many of a list stand in another.
-use Rattle.std.proofs.Common.{◌≡◌, ℕ, ◌+◌, ◌<◌, ◌≤◌, Bool, true, false, not, ◌&&◌, ◌||◌, eqb, List, [], ◌∷◌, ◌++◌, length, Some, None, Option, sym, refl, ap, ◌∙◌, rules}
-use Rattle.std.proofs.lemmas.List.{append-nil}
+use Rattle.std.proofs.Common.{◌≡◌, ℕ, ◌+◌, ◌<◌, ◌≤◌, Bool, true, false, not, ◌&&◌, ◌||◌, eqb, List, [], ◌∷◌, ◌++◌, length, Some, None, Option, sym, refl, ap, ◌∙◌, arith, rules}
+use Rattle.std.proofs.lemmas.List.{append-nil, length_push}
 use Rattle.std.proofs.lemmas.Bool.{and_parts}
 use Rattle.std.specs.Option.{option_to_list}
 use Rattle.platform.specs.Lists.{member, count}
-use Rattle.platform.proofs.Lists.{any_push}
+use Rattle.std.proofs.lemmas.List.Folds.{list_any-append}
 use Rattle.keepers.specs.Sets.{distinct, all_in, stacked}
 
 pub member_push : (xs : List ℕ) (y p : ℕ) → member p (xs ++ y ∷ []) ≡ (member p xs || eqb y p)
-member_push xs y p = any_push (λ x. eqb x p) xs y
+member_push xs y p = let e = list_any-append (λ x. eqb x p) xs (y ∷ []) in search rules
 
 -- a new number more
 pub distinct_push : (xs : List ℕ) (y : ℕ) → distinct xs ≡ true → member y xs ≡ false → distinct (xs ++ y ∷ []) ≡ true
@@ -119,6 +119,13 @@ stacked_give ps fs p s m n =
     let w = t.within in
     let i = all_in_push fs p ps in
     stacked_from ps (fs ++ p ∷ []) (record { pages = t.pages; free = distinct_push fs p t.free (sym n); within = search rules })
+
+-- there is room for a page that is not free
+pub stacked_room : (ps fs : List ℕ) (p : ℕ) → stacked ps fs ≡ true → member p ps ≡ true → member p fs ≡ false → length fs < length ps
+stacked_room ps fs p s m n =
+    let t = stacked_most ps (fs ++ p ∷ []) (stacked_give ps fs p s (sym m) (sym n)) in
+    let e = length_push fs p in
+    omega arith
 
 -- the last free page taken
 stacked_take : (ps fs : List ℕ) (p : ℕ) → stacked ps (fs ++ p ∷ []) ≡ true → stacked ps fs ≡ true

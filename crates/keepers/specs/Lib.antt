@@ -1,4 +1,6 @@
 pub mod Laws
+pub mod Meanings
+pub mod Orders
 pub mod Rings
 pub mod Rows
 pub mod Sets

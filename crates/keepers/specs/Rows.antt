@@ -1,8 +1,9 @@
 -- One guest's marks, and how a take goes round them.
-use Rattle.std.specs.Prelude.{ℕ, zero, suc, ◌+◌, Bool, true, false, cond, ◌&&◌, List, [], ◌∷◌, ◌++◌, drop, Some, None, Ok, Err, Option, Result, ◌==◌}
+use Rattle.std.specs.Prelude.{ℕ, zero, suc, ◌+◌, Bool, true, false, ◌&&◌, List, [], ◌∷◌, ◌++◌, drop, Some, None, Ok, Err, Option, Result, ◌==◌}
 use Rattle.platform.specs.declared.refusal.Refusal.{Refusal}
 use Rattle.platform.specs.declared.refusal.Refusal.TheVariants.{KeeperRefuses}
-use Rattle.platform.specs.Lists.{any, member}
+use Rattle.std.specs.List.{list_any, position, position_or_len}
+use Rattle.std.specs.Option.{option_map, option_or}
 use Rattle.keepers.specs.declared.mark.Mark.{Mark}
 use Rattle.keepers.specs.Shares.{Share}
 
@@ -13,32 +14,22 @@ pages_of (m ∷ ms) = m.page ∷ pages_of ms
 
 -- some mark is page p's, and free
 abbrev pub is_free : List Mark → ℕ → Bool
-is_free ms p = any (λ m. (m.page == p) && m.free) ms
+is_free ms p = list_any (λ m. (m.page == p) && m.free) ms
 
 -- the place of page p's mark, the number of marks where it has none
 abbrev pub place_of : List Mark → ℕ → ℕ
-place_of [] p = 0
-place_of (m ∷ ms) p = cond (m.page == p) 0 (1 + place_of ms p)
+place_of ms p = position_or_len (λ m. m.page == p) ms
 
 abbrev pub found_at : List Mark → ℕ → Option ℕ
-found_at ms p = cond (member p (pages_of ms)) (Some (place_of ms p)) None
-
--- the place of the first free mark, the number of marks where none is
-abbrev pub first_free : List Mark → ℕ
-first_free [] = 0
-first_free (m ∷ ms) = cond m.free 0 (1 + first_free ms)
+found_at ms p = position (λ m. m.page == p) ms
 
 -- the place of the first free mark from place i on
 abbrev pub free_from : List Mark → ℕ → Option ℕ
-free_from ms i = cond (any (λ m. m.free) (drop i ms)) (Some (i + first_free (drop i ms))) None
-
-abbrev pub or_else : Option ℕ → Option ℕ → Option ℕ
-or_else None b = b
-or_else (Some i) b = Some i
+free_from ms i = option_map (λ n. i + n) (position (λ m. m.free) (drop i ms))
 
 -- the first free mark from place i on, else from the start
 abbrev pub round_place : List Mark → ℕ → Option ℕ
-round_place ms i = or_else (free_from ms i) (free_from ms 0)
+round_place ms i = option_or (free_from ms i) (free_from ms 0)
 
 -- the page at a place, 0 past the end
 abbrev pub page_at : List Mark → ℕ → ℕ

@@ -1,32 +1,46 @@
--- The stack keeper: what it means, and which page it gives.
-use Rattle.std.specs.Prelude.{◌≡◌, ℕ, cond, List, [], ◌∷◌, ◌++◌, is_ok, Ok, Err, vec_items, Result}
+-- One guest's stack, and which page a take gives.
+use Rattle.std.specs.Prelude.{◌≡◌, ℕ, ◌-◌, cond, List, [], ◌∷◌, ◌++◌, length, slice_index, take, is_ok, Ok, Err, vec_items, Result, ◌==◌}
 use Rattle.platform.specs.declared.refusal.Refusal.{Refusal}
-use Rattle.platform.specs.Keepers.{Keep}
+use Rattle.platform.specs.declared.refusal.Refusal.TheVariants.{KeeperRefuses}
 use Rattle.platform.specs.Lists.{member}
+use Rattle.keepers.specs.declared.keeper.Keeper.{Keeper}
 use Rattle.keepers.specs.declared.stack.PageStack.{PageStack}
-use Rattle.keepers.specs.declared.stack.StackKeeper.{StackKeeper}
-use Rattle.keepers.specs.Shares.{Share, no_share, by_guest, changed, keep_of}
+use Rattle.keepers.specs.Orders.{orders_of}
+use Rattle.keepers.specs.Shares.{Share, changed}
 
--- what one guest's stack means
-abbrev pub stack_share : PageStack → Share
-stack_share s = record { pages = vec_items s.pages; free = λ p. member p (vec_items s.free) }
+-- the enrolled pages, the oldest first, and the free ones, the newest last
+pub record Pile : Type 0 where
+  pub pages : List ℕ
+  pub free : List ℕ
 
--- what the keeper means
-abbrev pub stack_holdings : StackKeeper → Keep
-stack_holdings k = keep_of (by_guest no_share stack_share (vec_items k.stacks))
+abbrev pub no_pile : Pile
+no_pile = record { pages = []; free = [] }
 
--- the free pages of one guest, the newest last
-abbrev pub newest_last : PageStack → List ℕ
-newest_last s = vec_items s.free
+abbrev pub pile_of : PageStack → Pile
+pile_of s = record { pages = vec_items s.pages; free = vec_items s.free }
+
+-- what a pile means
+abbrev pub pile_share : Pile → Share
+pile_share o = record { pages = o.pages; free = λ p. member p o.free }
+
+-- page p more, on top
+abbrev pub pile_with : Pile → ℕ → Pile
+pile_with o p = record { pages = o.pages ++ p ∷ []; free = o.free ++ p ∷ [] }
+
+-- page p back on top
+abbrev pub pile_freed : Pile → ℕ → Pile
+pile_freed o p = record { pages = o.pages; free = o.free ++ p ∷ [] }
+
+-- a take answers the page on top, and leaves the pages below it; it is refused where no page is free
+abbrev pub pile_answer : Pile → Result ℕ Refusal
+pile_answer o = cond (length o.free == 0) (Err KeeperRefuses) (Ok (slice_index o.free (length o.free - 1)))
+
+abbrev pub pile_after : Pile → Pile
+pile_after o = record { pages = o.pages; free = take (length o.free - 1) o.free }
 
 -- the free pages of each guest, the newest last: given or enrolled last
-abbrev pub stack_of : StackKeeper → ℕ → List ℕ
-stack_of k = by_guest [] newest_last (vec_items k.stacks)
-
--- what a take does to one stack: it takes the last page away
-abbrev pub TopOff : List ℕ → Result ℕ Refusal → List ℕ → Type 0
-TopOff s (Ok p) after = s ≡ after ++ p ∷ []
-TopOff s (Err e) after = after ≡ s
+abbrev pub stack_of : Keeper PageStack → ℕ → List ℕ
+stack_of k = λ g. (orders_of no_pile pile_of k g).free
 
 -- page p on guest g's stack
 abbrev pub pushed : (ℕ → List ℕ) → ℕ → ℕ → ℕ → List ℕ

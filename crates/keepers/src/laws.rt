@@ -2,8 +2,7 @@
 ghost use Rattle.keepers.specs.Laws.{StayLawful};
 
 // The holdings of all guests stay sets, each of at most 64 pages and apart from the others.
-pub fn holdings_stay_sets() -> u8
+#[tactic(auto, using(crate::proofs::Lawful::stay_lawful))]
+pub fn holdings_stay_sets()
     ensures law { StayLawful }
-{
-    0
-}
+{}

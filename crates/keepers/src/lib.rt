@@ -1,10 +1,11 @@
 // Page keepers: one that keeps stacks, one that keeps marks.
 #![tactic(auto)]
 
+pub mod keeper;
 pub mod laws;
 pub mod mark;
 pub mod marks;
-mod search;
+pub mod share;
 pub mod stack;
 pub mod uses;
 

@@ -3,14 +3,15 @@ ghost use Rattle.std.specs.Prelude.{◌≡◌, ◌≤◌, true, vec_len, vec_cap
 ghost use Rattle.keepers.specs.Rows.{pages_of};
 ghost use Rattle.keepers.specs.Sets.{distinct};
 
+use crate::keeper::Keeper;
 use crate::mark::Mark;
 
-mod calls;
 mod places;
 mod share;
 
 // One guest's marks in the order in which the pages were enrolled, and the place after the one taken last, 0 before any was.
 // The table of marks is made once, at its full size.
+// kept: a list that is searched, and no map: its order is that of enrolment, its room is fixed, and no call but `new` may allocate.
 #[derive(Drop)]
 pub struct PageMarks {
     marks: Vec<Mark>,
@@ -19,9 +20,5 @@ pub struct PageMarks {
     ghost neat: { distinct (pages_of marks.items) ≡ true },
 }
 
-// Marks for each guest, those of guest 1 first.
-#[derive(Drop)]
-pub struct MarksKeeper {
-    rows: Vec<PageMarks>,
-    ghost eight: { vec_len rows ≡ 8 },
-}
+// Marks for each guest.
+pub type MarksKeeper = Keeper<PageMarks>;

@@ -2,13 +2,14 @@
 ghost use Rattle.std.specs.Prelude.{◌≡◌, ◌≤◌, true, vec_len, vec_capacity};
 ghost use Rattle.keepers.specs.Sets.{stacked};
 
+use crate::keeper::Keeper;
 use platform::units::Page;
 
-mod calls;
 mod share;
 
 // One guest's pages in the order in which they were enrolled, and its free ones as a stack.
 // Both tables are made once, at their full size.
+// kept: two lists that are searched, and no map: the free pages have an order of their own, and no call but `new` may allocate.
 #[derive(Drop)]
 pub struct PageStack {
     pages: Vec<Page>,
@@ -17,9 +18,5 @@ pub struct PageStack {
     ghost neat: { stacked pages.items free.items ≡ true },
 }
 
-// A stack a guest, that of guest 1 first.
-#[derive(Drop)]
-pub struct StackKeeper {
-    stacks: Vec<PageStack>,
-    ghost eight: { vec_len stacks ≡ 8 },
-}
+// A stack for each guest.
+pub type StackKeeper = Keeper<PageStack>;

@@ -2,12 +2,10 @@
 ghost use Rattle.std.specs.Prelude.{◌≡◌, IfOk, string_bytes};
 ghost use Rattle.listing.specs.Texts.{listing_text};
 
-use crate::line::{Line, line_text};
+use crate::line::Line;
 use std::alloc::{AllocError, Global};
 
 const HEADER: &str = "shift\n";
-
-const LINE_FEED: &str = "\n";
 
 // The text of a listing: the header, and a row for each line.
 pub fn render(heap: Global, lines: &[Line]) -> Result<String, AllocError>
@@ -15,9 +13,8 @@ pub fn render(heap: Global, lines: &[Line]) -> Result<String, AllocError>
 {
     let mut text = String::from_str(heap, HEADER)?;
     for line in lines {
-        let row = line_text(heap, line)?;
+        let row = format!(in heap; "{line}\n")?;
         text.push_str(row.as_str())?;
-        text.push_str(LINE_FEED)?;
     }
     Ok(text)
 }

@@ -1,30 +1,30 @@
 -- Listed pages: what a table of pages holds, and what listing does to it.
-use Rattle.std.specs.Prelude.{ℕ, zero, suc, ◌+◌, Bool, false, cond, ◌||◌, List, [], ◌∷◌, is_ok, Some, None, Ok, Err, vec_items, vec_len, Option, Result, ◌==◌, nat_eq, nat_le, slice_index}
+use Rattle.std.specs.Prelude.{ℕ, zero, suc, ◌+◌, Bool, false, cond, ◌||◌, List, [], ◌∷◌, replicate, is_ok, Ok, Err, vec_items, vec_len, Option, Result, ◌==◌, nat_eq, nat_le, slice_index}
 use Rattle.platform.specs.declared.refusal.Refusal.{Refusal}
 use Rattle.platform.specs.declared.refusal.Refusal.TheVariants.{OutOfLimits, TableFull, Conflict}
 use Rattle.platform.specs.declared.span.Span.{Span}
-use Rattle.platform.specs.Lists.{any, any_below}
+use Rattle.std.specs.List.{list_any, position, range_with_len}
 use Rattle.platform.specs.Spans.{fits_book}
 use Rattle.platform.specs.Memories.{Mem, written}
 use Rattle.memories.specs.declared.listed.ListedPage.{ListedPage}
 use Rattle.memories.specs.declared.listed.ListedPages.{ListedPages}
 
+-- page p with words that are all 0
+abbrev pub blank_page : ℕ → ListedPage
+blank_page p = record { number = p; words = replicate 1024 0 }
+
 -- whether a page is listed
 abbrev pub lists : List ListedPage → ℕ → Bool
-lists xs p = any (λ x. nat_eq x.number p) xs
+lists xs p = list_any (λ x. nat_eq x.number p) xs
 
 -- the words of a listed page, none of one that is not
 abbrev pub words_of : List ListedPage → ℕ → List ℕ
 words_of [] p = []
 words_of (x ∷ xs) p = cond (x.number == p) x.words (words_of xs p)
 
--- the place of a page in the table, the table's length where it is not listed
-abbrev pub place_of : List ListedPage → ℕ → ℕ
-place_of [] p = 0
-place_of (x ∷ xs) p = cond (x.number == p) 0 (1 + place_of xs p)
-
+-- where a page stands in the table, if it is listed
 abbrev pub found_at : List ListedPage → ℕ → Option ℕ
-found_at xs p = cond (lists xs p) (Some (place_of xs p)) None
+found_at xs p = position (λ x. nat_eq x.number p) xs
 
 -- the memory that a table of pages is
 abbrev pub listed : List ListedPage → Mem
@@ -55,7 +55,7 @@ with_blanks c p (suc n) = with_blank (with_blanks c p n) (p + n)
 
 -- whether one of n pages from page p on is there
 abbrev pub any_had : Mem → ℕ → ℕ → Bool
-any_had m p n = any_below (λ i. m.has (p + i)) n
+any_had m p n = list_any m.has (range_with_len p n)
 
 -- the refusal of a span, if any: bad limits, then no room, then a page that is listed already
 abbrev pub list_answer : Catalog → Span → Result (Unit {0}) Refusal

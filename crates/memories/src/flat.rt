@@ -43,6 +43,7 @@ impl Memory for FlatWords {
         Ok(self.words[i])
     }
 
+    #[tactic(auto, using(crate::proofs::Flats::flat_put))]
     fn write(&mut self, page: Page, place: Place, word: Word) -> Result<(), Refusal> {
         let i = self.index(page, place)?;
         self.words[i] = word;

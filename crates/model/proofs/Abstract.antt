@@ -4,17 +4,15 @@ use Rattle.std.proofs.lemmas.Bool.Decides.{nat_tests}
 use Rattle.platform.specs.Keepers.{Keep, marked, give_answer}
 use Rattle.platform.specs.Lists.{member}
 use Rattle.platform.specs.Memories.{Mem, inside, written, cleared}
-use Rattle.walk.specs.declared.mapping.Paging.{Paging}
-use Rattle.walk.specs.declared.mapping.Paging.TheVariants.{Off, On}
 use Rattle.model.specs.Boards.{Board, word_at, same_key}
 use Rattle.model.specs.Boards as board
 use Rattle.model.specs.Fills.{drop_pages}
 use Rattle.model.proofs.Plain.{Space, Regs, Guest, World, State, key_of, root_at, put}
 use Rattle.model.proofs.Basics.{by_test}
 
-abbrev pub key_number : Paging → ℕ
-key_number Off = 0
-key_number (On b) = suc b
+abbrev pub key_number : Option ℕ → ℕ
+key_number None = 0
+key_number (Some b) = suc b
 
 abbrev pub plain_space : board.Space → Space
 plain_space x = record { key = key_number x.key; root = x.root }
@@ -39,16 +37,16 @@ pub state_path : (s t : State) → ((p k : ℕ) → s.word p k ≡ t.word p k) �
 state_path s t a b c d = λ i. record { word = λ p k. a p k i; free = λ g p. b g p i; guest = λ g. c g i; running = d i }
 
 -- keys as numbers
-pub key_same : (a b : Paging) → eqb (key_number a) (key_number b) ≡ same_key a b
-key_same Off Off = refl
-key_same Off (On b) = grind arith
-key_same (On a) Off = grind arith
-key_same (On a) (On b) = grind (arith, nat_tests)
+pub key_same : (a b : Option ℕ) → eqb (key_number a) (key_number b) ≡ same_key a b
+key_same None None = refl
+key_same None (Some b) = grind arith
+key_same (Some a) None = grind arith
+key_same (Some a) (Some b) = grind (arith, nat_tests)
 
 pub key_there : (x : board.Guest) → key_of (plain_regs x) ≡ key_number (board.key_of x)
-key_there x = by_test (λ b. cond b (suc x.base) 0 ≡ key_number (cond b (On x.base) Off)) x.paging (λ e. refl) (λ e. refl)
+key_there x = by_test (λ b. cond b (suc x.base) 0 ≡ key_number (cond b (Some x.base) None)) x.paging (λ e. refl) (λ e. refl)
 
-pub root_same : (k : Paging) (l : List board.Space) → root_at (key_number k) (map plain_space l) ≡ board.root_at k l
+pub root_same : (k : Option ℕ) (l : List board.Space) → root_at (key_number k) (map plain_space l) ≡ board.root_at k l
 root_same k [] = refl
 root_same k (x ∷ l) = ap₂ (λ (b : Bool) (o : Option ℕ). cond b (Some x.root) o) (key_same k x.key) (root_same k l)
 

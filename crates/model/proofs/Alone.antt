@@ -55,7 +55,7 @@ lf_exact : (f : ℕ → ℕ → Bool) (κ n k m : ℕ) → k ≡ κ → m ≡ n 
 lf_exact f κ n k m e d = ap (λ (x : ℕ → Bool). x m) (at_is f κ (at (f κ) n true) k e) ∙ at_is (f κ) n true m d
 
 module _ (w : World) (L : Lawful w) where
-  -- a page that Some guest may read is enrolled for None
+  -- a page that some guest may read is enrolled for none
   pub readable_out : (i p : ℕ) → leb 1 (rank (w.right i p)) ≡ true → (g : ℕ) → enrolled w g p ≡ false
   readable_out i p e = no_pool_out w L p (some_right w L i p (leb-true 1 (rank (w.right i p)) e))
 
@@ -189,7 +189,7 @@ module _ (w : World) (L : Lawful w) where
         let qr : q ≡ r = root_of_leaf q r m n _ a b in
         (key_of_root k (key_of (s.guest i).regs) r (subst (λ x. role x ≡ is_root i k) qr (root_role k q e)) (root_role (key_of (s.guest i).regs) r er), place_of_leaf q r m n _ a b)
 
-    -- a Mapped written at place j of the leaf at n
+    -- a mapping written at place j of the leaf at n
     pub alone_map : (r n j v : ℕ) → present s i ≡ Some r → ¬ (s.word r n ≡ 0) → alone w i (write s (page_in (s.word r n)) j v) ≡ own_map (alone w i s) n j v
     unfolding write
     alone_map r n j v er z = alone_path (alone w i t) (own_map (alone w i s) n j v)

@@ -1,10 +1,9 @@
 -- Two shifts that agree in a guest's list answer it alike.
-use Rattle.std.proofs.Common.{◌≡◌, ℕ, ◌/◌, ◌%◌, ◌<◌, ◌≤◌, true, false, cond, not, ◌&&◌, eqb, ltb, leb, List, ◌∷◌, length, is_some, None, Option, sym, refl, ap, ◌∙◌, subst, ap₂, ltb-true, eq-eqb, ne_eqb, eqb-true, leb-true}
+use Rattle.std.proofs.Common.{◌≡◌, ℕ, ◌/◌, ◌%◌, ◌<◌, ◌≤◌, true, false, cond, not, ◌&&◌, eqb, ltb, leb, List, ◌∷◌, length, is_some, None, Option, sym, refl, ap, ◌∙◌, subst, ap₂, ltb-true, eq-eqb, ne_eqb, eqb-true, leb-true, Err}
 use Rattle.platform.specs.declared.refusal.Refusal.TheVariants.{NoGuestRuns}
 use Rattle.platform.specs.declared.right.Right.{Right}
 use Rattle.platform.specs.Rights.{rank}
-use Rattle.model.specs.declared.calls.Answer.{Answer}
-use Rattle.model.specs.declared.calls.Answer.TheVariants.{Refused}
+use Rattle.model.specs.Answers.{Answer}
 use Rattle.model.specs.declared.calls.Call.{Call}
 use Rattle.model.specs.declared.calls.Call.TheVariants.{Schedule, Switch, PagingOn, PagingOff, Flush, FlushPage, Fault, Load, Store}
 use Rattle.model.specs.Fills.{Picks}
@@ -87,7 +86,7 @@ module _ (w : World) (L : Lawful w) (i : ℕ) (i0 : ¬ (i ≡ 0)) where
   mine_at : (q : Picks) (s : State) (c : Call) → s.running ≡ i → Good w s → Fair w q s c → step w q s c ≡ by_running s (guest_step w q s s.running c) → seen_by w L i (step w q s c) ≡ own_step (given_of w i) (alone w i s) c
   mine_at q s c e G F z =
       ap (seen_by w L i) z
-      ∙ ap (λ b. seen_by w L i (cond b (s, Refused NoGuestRuns) (guest_step w q s s.running c))) (ne_eqb s.running 0 (λ o. i0 (sym e ∙ o)))
+      ∙ ap (λ b. seen_by w L i (cond b (s, Err NoGuestRuns) (guest_step w q s s.running c))) (ne_eqb s.running 0 (λ o. i0 (sym e ∙ o)))
       ∙ ap (λ x. seen_by w L i (guest_step w q s x c)) e
       ∙ own w L i q s c G (subst (λ x. FairFor w q s x c) e F)
 

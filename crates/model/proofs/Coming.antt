@@ -1,8 +1,7 @@
 -- A shift is a run of the plain board.
-use Rattle.std.proofs.Common.{◌≡◌, ℕ, suc, Bool, true, false, cond, ◌&&◌, eqb, ltb, ◌∷◌, map, unwrap_or, sym, refl, ap, ◌∙◌, subst, ap₂}
+use Rattle.std.proofs.Common.{◌≡◌, ℕ, suc, Bool, true, false, cond, ◌&&◌, eqb, ltb, ◌∷◌, map, unwrap_or, sym, refl, ap, ◌∙◌, subst, ap₂, Some, None}
 use Rattle.std.proofs.lemmas.Bool.{ltb-true}
-use Rattle.walk.specs.declared.mapping.Paging.TheVariants.{Off, On}
-use Rattle.model.specs.declared.calls.Answer.{Answer}
+use Rattle.model.specs.Answers.{Answer}
 use Rattle.model.specs.declared.calls.Call.{Call}
 use Rattle.model.specs.Boards.{Board, word_at}
 use Rattle.model.specs.Boards as board
@@ -91,7 +90,7 @@ pub record Came (start : Board) (h : History) (b : Board) : Type 0 where
 key_told : (h : History) (g : ℕ) (x : Regs) → two x ≡ two_of h g → key_of x ≡ key_number (key_in h g)
 key_told h g x e =
     ap (λ (y : Bool × ℕ). cond y.0 (suc y.1) 0) e
-    ∙ by_test (λ t. cond t (suc (base_of h g)) 0 ≡ key_number (cond t (On (base_of h g)) Off)) (paging_of h g) (λ t. refl) (λ t. refl)
+    ∙ by_test (λ t. cond t (suc (base_of h g)) 0 ≡ key_number (cond t (Some (base_of h g)) None)) (paging_of h g) (λ t. refl) (λ t. refl)
 
 module _ (start : Board) (h : History) (b : Board) (C : Came start h b) (c : Call) (q : Picks) (F : steps.Fair b c q) where
   abbrev s : State

@@ -11,12 +11,11 @@ use Rattle.platform.specs.Windows.{Pane}
 use Rattle.descriptor.specs.Shadow.{attributes}
 use Rattle.walk.specs.declared.abort.Abort.{Abort}
 use Rattle.walk.specs.declared.mapping.Mapping.{Mapping}
-use Rattle.walk.specs.declared.mapping.Paging.{Paging}
-use Rattle.walk.specs.declared.mapping.Paging.TheVariants.{Off, On}
 use Rattle.walk.specs.Sights.{Sight, sight}
 use Rattle.walk.specs.Walks.{walk_answer}
-use Rattle.model.specs.declared.calls.Answer.{Answer}
-use Rattle.model.specs.declared.calls.Answer.TheVariants.{Done, Refused, Mapped, Aborted, Loaded}
+use Rattle.model.specs.declared.calls.Reply.{Reply}
+use Rattle.model.specs.Answers.{Answer}
+use Rattle.model.specs.declared.calls.Reply.TheVariants.{Done, Mapped, Aborted, Loaded}
 use Rattle.model.specs.declared.calls.Call.{Call}
 use Rattle.model.specs.declared.calls.Call.TheVariants.{Schedule, Switch, PagingOn, PagingOff, Flush, FlushPage, Fault, Load, Store}
 use Rattle.model.specs.Fills.{Picks}
@@ -41,7 +40,7 @@ pub record Guest : Type 0 where
 pub record World : Type 0 where
   pub has : ℕ → Bool
   pub right : ℕ → ℕ → Right
-  pub pool : ℕ → ℕ
+  pub pool : ℕ → Option ℕ
   pub pages : ℕ → List ℕ
   pub window : Pane
   pub admitted : ℕ → Bool
@@ -57,9 +56,9 @@ pub record State : Type 0 where
 abbrev pub key_of : Regs → ℕ
 key_of r = cond r.paging (suc r.base) 0
 
-abbrev pub paging_in : ℕ → Paging
-paging_in zero = Off
-paging_in (suc b) = On b
+abbrev pub paging_in : ℕ → Option ℕ
+paging_in zero = None
+paging_in (suc b) = Some b
 
 abbrev pub at : {A : Type 0} → (ℕ → A) → ℕ → A → ℕ → A
 at f i a j = cond (eqb j i) a (f j)
@@ -179,8 +178,8 @@ abbrev pub failed : Regs → Abort → ℕ → Access → Regs
 failed r e va x = record { paging = r.paging; base = r.base; code = status_code e x; address = va }
 
 abbrev pub fault_by : World → Picks → State → ℕ → ℕ → Access → Result Mapping Abort → State × Answer
-fault_by w q s g va x (Err e) = (set_regs s g (failed (s.guest g).regs e va x), Aborted e)
-fault_by w q s g va x (Ok m) = (filled w q s g va (map_word m.page m.right), Mapped m)
+fault_by w q s g va x (Err e) = (set_regs s g (failed (s.guest g).regs e va x), Ok (Aborted e))
+fault_by w q s g va x (Ok m) = (filled w q s g va (map_word m.page m.right), Ok (Mapped m))
 
 -- the word at place j of the leaf that place n of a root names; 0: nothing is mapped
 abbrev pub mapping_at : State → Option ℕ → ℕ → ℕ → ℕ
@@ -196,10 +195,10 @@ is_write Read = false
 is_write Write = true
 
 abbrev pub load_by : State → ℕ → ℕ → State × Answer
-load_by s va v = cond (eqb v 0) (s, Refused NotMapped) (s, Loaded (s.word (page_in v) (va / 4 % 1024)))
+load_by s va v = cond (eqb v 0) (s, Err NotMapped) (s, Ok (Loaded (s.word (page_in v) (va / 4 % 1024))))
 
 abbrev pub store_by : State → ℕ → ℕ → ℕ → State × Answer
-store_by s va x v = cond (is_write (right_in v) && not (eqb v 0)) (write s (page_in v) (va / 4 % 1024) x, Done) (s, Refused NotMapped)
+store_by s va x v = cond (is_write (right_in v) && not (eqb v 0)) (write s (page_in v) (va / 4 % 1024) x, Ok Done) (s, Err NotMapped)
 
 abbrev pub switched : Regs → ℕ → Regs
 switched r b = record { paging = r.paging; base = b / 4096; code = r.code; address = r.address }
@@ -208,26 +207,26 @@ abbrev pub paged : Regs → Bool → Regs
 paged r b = record { paging = b; base = r.base; code = r.code; address = r.address }
 
 abbrev pub guest_step : World → Picks → State → ℕ → Call → State × Answer
-guest_step w q s g (Schedule h) = (s, Refused NoGuestRuns)
-guest_step w q s g (Switch b) = (set_regs s g (switched (s.guest g).regs b), Done)
-guest_step w q s g PagingOn = (set_regs s g (paged (s.guest g).regs true), Done)
-guest_step w q s g PagingOff = (set_regs s g (paged (s.guest g).regs false), Done)
-guest_step w q s g Call.Status = (s, Answer.Status (s.guest g).regs.code (s.guest g).regs.address)
-guest_step w q s g Flush = (drop w s g, Done)
-guest_step w q s g (FlushPage va) = (wipe s g (va / 1048576) (va / 4096 % 256), Done)
+guest_step w q s g (Schedule h) = (s, Err NoGuestRuns)
+guest_step w q s g (Switch b) = (set_regs s g (switched (s.guest g).regs b), Ok Done)
+guest_step w q s g PagingOn = (set_regs s g (paged (s.guest g).regs true), Ok Done)
+guest_step w q s g PagingOff = (set_regs s g (paged (s.guest g).regs false), Ok Done)
+guest_step w q s g Call.Status = (s, Ok (Reply.Status (s.guest g).regs.code (s.guest g).regs.address))
+guest_step w q s g Flush = (drop w s g, Ok Done)
+guest_step w q s g (FlushPage va) = (wipe s g (va / 1048576) (va / 4096 % 256), Ok Done)
 guest_step w q s g (Fault va x) = fault_by w q s g va x (walked w s g va x)
-guest_step w q s g (Load va) = cond (eqb (va % 4) 0) (load_by s va (shadow s g va)) (s, Refused Misaligned)
-guest_step w q s g (Store va x) = cond (eqb (va % 4) 0) (store_by s va x (shadow s g va)) (s, Refused Misaligned)
+guest_step w q s g (Load va) = cond (eqb (va % 4) 0) (load_by s va (shadow s g va)) (s, Err Misaligned)
+guest_step w q s g (Store va x) = cond (eqb (va % 4) 0) (store_by s va x (shadow s g va)) (s, Err Misaligned)
 
 abbrev pub runs_next : State → ℕ → State
 runs_next s h = record { word = s.word; free = s.free; guest = s.guest; running = h }
 
 abbrev pub scheduled : World → State → ℕ → State × Answer
-scheduled w s h = cond (is_guest h) (cond (w.admitted h) (runs_next s h, Done) (s, Refused NotAdmitted)) (s, Refused GuestOutOfRange)
+scheduled w s h = cond (is_guest h) (cond (w.admitted h) (runs_next s h, Ok Done) (s, Err NotAdmitted)) (s, Err GuestOutOfRange)
 
 -- a call of the guest that runs
 abbrev pub by_running : State → State × Answer → State × Answer
-by_running s r = cond (eqb s.running 0) (s, Refused NoGuestRuns) r
+by_running s r = cond (eqb s.running 0) (s, Err NoGuestRuns) r
 
 abbrev pub step : World → Picks → State → Call → State × Answer
 step w q s (Schedule h) = scheduled w s h

@@ -1,5 +1,6 @@
 -- Every call can be made, a fault finds its pages, and what it filled is read back.
 use Rattle.std.proofs.Common.{◌≡◌, ℕ, ◌+◌, ◌/◌, ◌%◌, ◌≤◌, Bool, true, false, cond, ◌||◌, eqb, List, [], ◌∷◌, is_some, Some, None, Ok, Err, Result, sym, refl, ap, ◌∙◌, subst, ap₂, arith, rules, eq-eqb, ne_eqb}
+use Rattle.std.specs.Result.{is_err}
 use Rattle.platform.specs.declared.access.Access.{Access}
 use Rattle.platform.specs.declared.refusal.Refusal.{Refusal}
 use Rattle.platform.specs.declared.refusal.Refusal.TheVariants.{NoGuestRuns}
@@ -14,8 +15,8 @@ use Rattle.walk.specs.declared.abort.Abort.TheVariants.{PagePermission}
 use Rattle.walk.specs.declared.mapping.Ask.{Ask}
 use Rattle.walk.specs.declared.mapping.Mapping.{Mapping}
 use Rattle.walk.specs.Walks.{ask}
-use Rattle.model.specs.declared.calls.Answer.{Answer}
-use Rattle.model.specs.declared.calls.Answer.TheVariants.{Done, Refused, Mapped, Aborted, Loaded}
+use Rattle.model.specs.Answers.{Answer}
+use Rattle.model.specs.declared.calls.Reply.TheVariants.{Mapped}
 use Rattle.model.specs.declared.calls.Call.{Call}
 use Rattle.model.specs.declared.calls.Call.TheVariants.{Schedule, Switch, PagingOn, PagingOff, Flush, FlushPage, Fault, Load, Store}
 use Rattle.model.specs.Boards.{Board}
@@ -93,38 +94,28 @@ call_pages b (Store va x) = (no_pages, tt)
 call_pages b Call.Status = (no_pages, tt)
 
 -- a fault of a guest that runs is not refused
-is_refused : Answer → Bool
-is_refused Done = false
-is_refused (Refused e) = true
-is_refused (Mapped m) = false
-is_refused (Aborted e) = false
-is_refused (Loaded w) = false
-is_refused (Answer.Status c a) = false
-
 fault_step : (w : World) (q : Picks) (s : State) (va : ℕ) (x : Access) → ¬ (s.running ≡ 0) → step w q s (Fault va x) ≡ fault_by w q s s.running va x (walked w s s.running va x)
-fault_step w q s va x n = ap (λ t. cond t (s, Refused NoGuestRuns) (fault_by w q s s.running va x (walked w s s.running va x))) (ne_eqb s.running 0 n)
+fault_step w q s va x n = ap (λ t. cond t (s, Err NoGuestRuns) (fault_by w q s s.running va x (walked w s s.running va x))) (ne_eqb s.running 0 n)
 
-fault_answers : (w : World) (q : Picks) (s : State) (va : ℕ) (x : Access) → ¬ (s.running ≡ 0) → is_refused (step w q s (Fault va x)).1 ≡ false
-unfolding is_refused
+fault_answers : (w : World) (q : Picks) (s : State) (va : ℕ) (x : Access) → ¬ (s.running ≡ 0) → is_err (step w q s (Fault va x)).1 ≡ false
 fault_answers w q s va x n =
-    ap (λ (r : State × Answer). is_refused r.1) (fault_step w q s va x n)
-    ∙ by_result (λ o. is_refused (fault_by w q s s.running va x o).1 ≡ false) (walked w s s.running va x) (λ m e. refl) (λ e d. refl)
+    ap (λ (r : State × Answer). is_err r.1) (fault_step w q s va x n)
+    ∙ by_result (λ o. is_err (fault_by w q s s.running va x o).1 ≡ false) (walked w s s.running va x) (λ m e. refl) (λ e d. refl)
 
 runs_some : (b : Board) → Steady b → (g : ℕ) → b.running ≡ Some g → ¬ ((plain b).running ≡ 0)
 runs_some b S g e z = clash (S.runner 0 (e ∙ ap Some (sym (ap who e) ∙ z))).0 refl
 
 pub no_fault_fails_for_want_of_a_page : NoFaultFailsForWantOfAPage
-unfolding is_refused
 no_fault_fails_for_want_of_a_page start T h b S =
     let C = came start T S in
     record {
       every_call = λ c. let q = call_pages b c in ((steps.step b c q.0).answer, (steps.step b c q.0).after, (q.0, (q.1, refl)));
       no_want = λ va x e after P.
           let D = stepped b (Fault va x) P.0 C.steady P.1.0 in
-          let a : Refused e ≡ (step (world b) P.0 (plain b) (Fault va x)).1 = ap (λ (t : steps.Turn). t.answer) P.1.1 ∙ D.says in
+          let a : Err e ≡ (step (world b) P.0 (plain b) (Fault va x)).1 = ap (λ (t : steps.Turn). t.answer) P.1.1 ∙ D.says in
           sym C.running ∙ by_option (λ o. b.running ≡ o → o ≡ None) b.running
           (λ d z. refl)
-          (λ g d z. clash (ap is_refused (sym a)) (fault_answers (world b) P.0 (plain b) va x (runs_some b C.steady g z)))
+          (λ g d z. clash (ap is_err (sym a)) (fault_answers (world b) P.0 (plain b) va x (runs_some b C.steady g z)))
           refl;
     }
 
@@ -148,27 +139,10 @@ says_mapping : (p v : ℕ) (r : Right) (o : Result Ask Abort) → 1 ≤ rank r �
 says_mapping p v r o l e (nothing a z) = absurd (map_some p r l (sym e ∙ z))
 says_mapping p v r o l e (maps n) = ap₂ (λ x (y : Right). Ok (ask x y PagePermission)) (ap page_in e ∙ map_page p r) (ap right_in e ∙ map_right p r l)
 
-mapping_in : Mapping → Answer → Mapping
-mapping_in m Done = m
-mapping_in m (Refused e) = m
-mapping_in m (Mapped n) = n
-mapping_in m (Aborted e) = m
-mapping_in m (Loaded w) = m
-mapping_in m (Answer.Status c a) = m
-
-is_mapped : Answer → Bool
-is_mapped Done = false
-is_mapped (Refused e) = false
-is_mapped (Mapped n) = true
-is_mapped (Aborted e) = false
-is_mapped (Loaded w) = false
-is_mapped (Answer.Status c a) = false
-
-mapped_filled : (w : World) (q : Picks) (s : State) (g va : ℕ) (x : Access) (m : Mapping) (o : Result Mapping Abort) → Mapped m ≡ (fault_by w q s g va x o).1 → (o ≡ Ok m) × ((fault_by w q s g va x o).0 ≡ filled w q s g va (map_word m.page m.right))
-unfolding mapping_in is_mapped
-mapped_filled w q s g va x m (Err e) d = clash (sym (ap is_mapped d)) refl
+mapped_filled : (w : World) (q : Picks) (s : State) (g va : ℕ) (x : Access) (m : Mapping) (o : Result Mapping Abort) → Ok (Mapped m) ≡ (fault_by w q s g va x o).1 → (o ≡ Ok m) × ((fault_by w q s g va x o).0 ≡ filled w q s g va (map_word m.page m.right))
+mapped_filled w q s g va x m (Err e) d = absurd cc
 mapped_filled w q s g va x m (Ok n) d =
-    let e : n ≡ m = sym (ap (mapping_in m) d) in
+    let e : n ≡ m = cc in
     (ap Ok e, ap (λ (y : Mapping). filled w q s g va (map_word y.page y.right)) e)
 
 pub shadow_reads_back : ShadowReadsBack
@@ -180,7 +154,7 @@ shadow_reads_back start T h b S g va x m after r P =
     let run : b.running ≡ Some g = C.running ∙ r in
     let me : (plain b).running ≡ g = ap who run in
     let fs = fault_step w q (plain b) va x (runs_some b C.steady g run) ∙ ap (λ k. fault_by w q (plain b) k va x (walked w (plain b) k va x)) me in
-    let a : Mapped m ≡ (fault_by w q (plain b) g va x (walked w (plain b) g va x)).1 = ap (λ (t : steps.Turn). t.answer) P.1.1 ∙ D.says ∙ ap (λ (y : State × Answer). y.1) fs in
+    let a : Ok (Mapped m) ≡ (fault_by w q (plain b) g va x (walked w (plain b) g va x)).1 = ap (λ (t : steps.Turn). t.answer) P.1.1 ∙ D.says ∙ ap (λ (y : State × Answer). y.1) fs in
     let M = mapped_filled w q (plain b) g va x m (walked w (plain b) g va x) a in
     let F : FairFault w q (plain b) g va = subst (λ k. FairFault w q (plain b) k va) me (D.is_fair m (ap (λ k. walked w (plain b) k va x) me ∙ M.0)) in
     let v : shadow (plain (steps.step b (Fault va x) q).after) g va ≡ map_word m.page m.right = ap (λ (s : State). shadow s g va) (D.same ∙ ap (λ (y : State × Answer). y.0) fs ∙ M.1) ∙ filled_shadow w C.steady.lawful q (plain b) g va (map_word m.page m.right) C.steady.good F in

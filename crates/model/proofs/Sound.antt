@@ -1,5 +1,5 @@
 -- What holds of a plain board between two calls.
-use Rattle.std.proofs.Common.{◌≡◌, ℕ, ◌<◌, ◌≤◌, true, false, eqb, ◌⊎◌, List, [], ◌∷◌, length, Some}
+use Rattle.std.proofs.Common.{◌≡◌, ℕ, ◌<◌, ◌≤◌, true, false, eqb, ◌⊎◌, List, [], ◌∷◌, length, Some, None}
 use Rattle.platform.specs.declared.right.Right.TheVariants.{Nothing, Write}
 use Rattle.platform.specs.Guests.{is_guest}
 use Rattle.platform.specs.Lists.{count}
@@ -8,9 +8,9 @@ use Rattle.model.proofs.Plain.{World, State, Regs, Space, enrolled, root_at, lea
 
 -- the laws of the parts, and of the enrolled pages
 pub record Lawful (w : World) : Type 0 where
-  pub pool_none : (g p : ℕ) → ¬ (w.pool p ≡ 0) → w.right g p ≡ Nothing
+  pub pool_none : (g p : ℕ) → ¬ (w.pool p ≡ None) → w.right g p ≡ Nothing
   pub one_writer : (g h p : ℕ) → w.right g p ≡ Write → w.right h p ≡ Write → g ≡ h
-  pub own_pool : (g p : ℕ) → enrolled w g p ≡ true → w.pool p ≡ g
+  pub own_pool : (g p : ℕ) → enrolled w g p ≡ true → w.pool p ≡ Some g
   pub once : (g p : ℕ) → enrolled w g p ≡ true → count (λ q. eqb q p) (w.pages g) ≡ 1
   pub guests_only : (g p : ℕ) → enrolled w g p ≡ true → is_guest g ≡ true
   pub in_window : (g p : ℕ) → enrolled w g p ≡ true → p < w.window.count
@@ -36,7 +36,7 @@ pub data Role : Type 0 where
 
 -- a mapping's word: a page that is there, in no pool, with no more than guest g's right
 pub record Allowed (w : World) (g v : ℕ) : Type 0 where
-  pub no_pool : w.pool (page_in v) ≡ 0
+  pub no_pool : w.pool (page_in v) ≡ None
   pub by_book : rank (right_in v) ≤ rank (w.right g (page_in v))
   pub form : v ≡ map_word (page_in v) (right_in v)
   pub inside : page_in v < w.window.count

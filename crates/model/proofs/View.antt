@@ -9,8 +9,9 @@ use Rattle.walk.specs.declared.abort.Abort.{Abort}
 use Rattle.walk.specs.declared.mapping.Mapping.{Mapping}
 use Rattle.walk.specs.Sights.{Sight, sight}
 use Rattle.walk.specs.Walks.{walk_answer}
-use Rattle.model.specs.declared.calls.Answer.{Answer}
-use Rattle.model.specs.declared.calls.Answer.TheVariants.{Done, Refused, Mapped, Aborted, Loaded}
+use Rattle.model.specs.declared.calls.Reply.{Reply}
+use Rattle.model.specs.Answers.{Answer}
+use Rattle.model.specs.declared.calls.Reply.TheVariants.{Done, Mapped, Aborted, Loaded}
 use Rattle.model.specs.declared.calls.Call.{Call}
 use Rattle.model.specs.declared.calls.Call.TheVariants.{Schedule, Switch, PagingOn, PagingOff, Flush, FlushPage, Fault, Load, Store}
 use Rattle.model.specs.Shifts.{Turn}
@@ -87,8 +88,8 @@ abbrev pub own_walked : Given → Alone → ℕ → Access → Result Mapping Ab
 own_walked G a va x = walk_answer (own_sight G a) (paging_in (key_of a.regs)) va x
 
 abbrev pub own_fault_by : Given → Alone → ℕ → Access → Result Mapping Abort → Alone × Answer
-own_fault_by G a va x (Err e) = (own_regs a (failed a.regs e va x), Aborted e)
-own_fault_by G a va x (Ok m) = (own_filled G a va (map_word m.page m.right), Mapped m)
+own_fault_by G a va x (Err e) = (own_regs a (failed a.regs e va x), Ok (Aborted e))
+own_fault_by G a va x (Ok m) = (own_filled G a va (map_word m.page m.right), Ok (Mapped m))
 
 abbrev pub own_write : Given → Alone → ℕ → ℕ → ℕ → Alone
 own_write G a p k x = record { regs = a.regs; rooted = a.rooted; leaf = a.leaf; map = a.map; number = a.number; free = a.free; words = λ q j. cond (leb 1 (rank (G.right q))) (put a.words p k x q j) 0 }
@@ -97,16 +98,16 @@ abbrev pub own_shadow : Alone → ℕ → ℕ
 own_shadow a va = a.map (key_of a.regs) (va / 1048576) (va / 4096 % 256)
 
 abbrev pub own_step : Given → Alone → Call → Alone × Answer
-own_step G a (Schedule h) = (a, Refused NoGuestRuns)
-own_step G a (Switch b) = (own_regs a (switched a.regs b), Done)
-own_step G a PagingOn = (own_regs a (paged a.regs true), Done)
-own_step G a PagingOff = (own_regs a (paged a.regs false), Done)
-own_step G a Call.Status = (a, Answer.Status a.regs.code a.regs.address)
-own_step G a Flush = (own_drop G a, Done)
-own_step G a (FlushPage va) = (own_wipe a (va / 1048576) (va / 4096 % 256), Done)
+own_step G a (Schedule h) = (a, Err NoGuestRuns)
+own_step G a (Switch b) = (own_regs a (switched a.regs b), Ok Done)
+own_step G a PagingOn = (own_regs a (paged a.regs true), Ok Done)
+own_step G a PagingOff = (own_regs a (paged a.regs false), Ok Done)
+own_step G a Call.Status = (a, Ok (Reply.Status a.regs.code a.regs.address))
+own_step G a Flush = (own_drop G a, Ok Done)
+own_step G a (FlushPage va) = (own_wipe a (va / 1048576) (va / 4096 % 256), Ok Done)
 own_step G a (Fault va x) = own_fault_by G a va x (own_walked G a va x)
-own_step G a (Load va) = cond (eqb (va % 4) 0) (cond (eqb (own_shadow a va) 0) (a, Refused NotMapped) (a, Loaded (a.words (page_in (own_shadow a va)) (va / 4 % 1024)))) (a, Refused Misaligned)
-own_step G a (Store va x) = cond (eqb (va % 4) 0) (cond (is_write (right_in (own_shadow a va)) && not (eqb (own_shadow a va) 0)) (own_write G a (page_in (own_shadow a va)) (va / 4 % 1024) x, Done) (a, Refused NotMapped)) (a, Refused Misaligned)
+own_step G a (Load va) = cond (eqb (va % 4) 0) (cond (eqb (own_shadow a va) 0) (a, Err NotMapped) (a, Ok (Loaded (a.words (page_in (own_shadow a va)) (va / 4 % 1024))))) (a, Err Misaligned)
+own_step G a (Store va x) = cond (eqb (va % 4) 0) (cond (is_write (right_in (own_shadow a va)) && not (eqb (own_shadow a va) 0)) (own_write G a (page_in (own_shadow a va)) (va / 4 % 1024) x, Ok Done) (a, Err NotMapped)) (a, Err Misaligned)
 
 abbrev pub or_word : Option ℕ → ℕ → ℕ
 or_word None x = x

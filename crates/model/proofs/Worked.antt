@@ -1,5 +1,5 @@
 -- The worked shift, computed.
-use Rattle.std.proofs.Common.{◌≡◌, ℕ, ◌<◌, ◌≤◌, true, ◌||◌, eqb, ltb, length, refl, lit≤, rules}
+use Rattle.std.proofs.Common.{Some, ◌≡◌, ℕ, ◌<◌, ◌≤◌, true, ◌||◌, eqb, ltb, length, refl, lit≤, rules}
 use Rattle.platform.specs.Books.{PoolsGiveNothing, OneWriter, FarPagesGiveNothing, StrangersHaveNothing}
 use Rattle.platform.specs.Guests.{is_guest}
 use Rattle.platform.specs.Lists.{count, member}
@@ -36,7 +36,7 @@ far_pages g p l = search rules
 strangers : StrangersHaveNothing rights
 strangers g p e = search rules
 
-own_pool : (g p : ℕ) → member p (tables g) ≡ true → rights.pool p ≡ g
+own_pool : (g p : ℕ) → member p (tables g) ≡ true → rights.pool p ≡ Some g
 own_pool g p e = search rules
 
 in_window : (g p : ℕ) → member p (tables g) ≡ true → p < 12

@@ -1,5 +1,5 @@
 -- A worked shift.
-use Rattle.std.specs.Prelude.{◌≡◌, ℕ, cond, ◌&&◌, ◌||◌, List, [], ◌∷◌, None, ◌==◌, nat_lt}
+use Rattle.std.specs.Prelude.{◌≡◌, ℕ, cond, ◌&&◌, ◌||◌, List, [], ◌∷◌, Some, None, ◌==◌, nat_lt, Ok}
 use Rattle.platform.specs.declared.access.Access.{Access}
 use Rattle.platform.specs.declared.right.Right.{Right}
 use Rattle.platform.specs.declared.right.Right.TheVariants.{Nothing}
@@ -7,8 +7,9 @@ use Rattle.platform.specs.Books.{Book}
 use Rattle.platform.specs.Lists.{member}
 use Rattle.platform.specs.Memories.{Mem}
 use Rattle.walk.specs.declared.abort.Abort.TheVariants.{External}
-use Rattle.model.specs.declared.calls.Answer.{Answer}
-use Rattle.model.specs.declared.calls.Answer.TheVariants.{Done, Mapped, Aborted, Loaded}
+use Rattle.model.specs.declared.calls.Reply.{Reply}
+use Rattle.model.specs.Answers.{Answer}
+use Rattle.model.specs.declared.calls.Reply.TheVariants.{Done, Mapped, Aborted, Loaded}
 use Rattle.model.specs.declared.calls.Call.{Call}
 use Rattle.model.specs.declared.calls.Call.TheVariants.{Schedule, PagingOn, Fault, Load, Store}
 use Rattle.model.specs.Boards.{Board}
@@ -24,7 +25,7 @@ words = record { has = λ p. nat_lt p 10; word = λ p k. cond (p == 0 && k == 5)
 abbrev pub rights : Book
 rights = record {
   right = λ g p. cond (g == 1) (cond (nat_lt p 4) Right.Write (cond (p == 4) Right.Read Nothing)) (cond (g == 2 && p == 4) Right.Write Nothing);
-  pool = λ p. cond (p == 8 || p == 9) 1 (cond (p == 6 || p == 7) 2 0);
+  pool = λ p. cond (p == 8 || p == 9) (Some 1) (cond (p == 6 || p == 7) (Some 2) None);
 }
 
 abbrev pub tables : ℕ → List ℕ
@@ -47,7 +48,7 @@ worked_calls = Schedule 1 ∷ PagingOn ∷ Fault 0x00502000 Access.Write ∷ Sto
 
 -- a write adds 0x800 to the code 0x08
 abbrev pub worked_answers : List Answer
-worked_answers = Done ∷ Done ∷ Mapped (record { page = 2; right = Right.Write }) ∷ Done ∷ Loaded 0x600DF00D ∷ Aborted External ∷ Answer.Status 0x808 0x00504000 ∷ []
+worked_answers = Ok Done ∷ Ok Done ∷ Ok (Mapped (record { page = 2; right = Right.Write })) ∷ Ok Done ∷ Ok (Loaded 0x600DF00D) ∷ Ok (Aborted External) ∷ Ok (Reply.Status 0x808 0x00504000) ∷ []
 
 -- calls made one after another, with the same pages offered in each
 abbrev pub play : Picks → Board → List Call → List Answer

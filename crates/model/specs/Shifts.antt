@@ -4,8 +4,7 @@ use Rattle.platform.specs.declared.right.Right.{Right}
 use Rattle.platform.specs.Rights.{rank}
 use Rattle.descriptor.specs.declared.entry.SecondLevel.{SecondLevel}
 use Rattle.descriptor.specs.Entries.{table_page, second_level}
-use Rattle.walk.specs.declared.mapping.Paging.{Paging}
-use Rattle.model.specs.declared.calls.Answer.{Answer}
+use Rattle.model.specs.Answers.{Answer}
 use Rattle.model.specs.declared.calls.Call.{Call}
 use Rattle.model.specs.Boards.{Board, root_at, word_at}
 use Rattle.model.specs.Steps.{Steps}
@@ -22,7 +21,7 @@ pub record WithinRights (b : Board) (g word : ℕ) : Type 0 where
   pub page : ℕ
   pub right : Right
   pub reads : (va : ℕ) → second_level word va ≡ SecondLevel.SmallPage page right
-  pub in_no_pool : b.book.pool page ≡ 0
+  pub in_no_pool : b.book.pool page ≡ None
   pub by_book : rank right ≤ rank (b.book.right g page)
 
 -- every mapping under a recorded root stays within rights and off the pools: a root is recorded while a space has it,
@@ -30,7 +29,7 @@ pub record WithinRights (b : Board) (g word : ℕ) : Type 0 where
 abbrev pub MappingsStayWithinRights : Type 0
 MappingsStayWithinRights =
     (start : Board) → Started start → (h : History) (b : Board) → Shift start h b
-    → (g : ℕ) (key : Paging) (root i j : ℕ) → root_at key (b.guest g).spaces ≡ Some root
+    → (g : ℕ) (key : Option ℕ) (root i j : ℕ) → root_at key (b.guest g).spaces ≡ Some root
     → (word_at b.memory root i ≢ 0)
     → (word_at b.memory (table_page (word_at b.memory root i)) j ≢ 0)
     → WithinRights b g (word_at b.memory (table_page (word_at b.memory root i)) j)

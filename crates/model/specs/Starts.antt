@@ -1,5 +1,5 @@
 -- A board right after start.
-use Rattle.std.specs.Prelude.{◌≡◌, ℕ, ◌<◌, ◌≤◌, Bool, true, false, List, [], length, None, nat_eq}
+use Rattle.std.specs.Prelude.{◌≡◌, ℕ, ◌<◌, ◌≤◌, Bool, true, false, List, [], length, Some, None, nat_eq}
 use Rattle.platform.specs.Books.{PoolsGiveNothing, OneWriter, FarPagesGiveNothing, StrangersHaveNothing}
 use Rattle.platform.specs.Guests.{is_guest}
 use Rattle.platform.specs.Lists.{count, member}
@@ -21,7 +21,7 @@ pub record Started (b : Board) : Type 0 where
   pub far : FarPagesGiveNothing b.book
   pub strangers : StrangersHaveNothing b.book
   pub window_size : b.window.count ≤ 65536
-  pub own_pool : (g p : ℕ) → enrolled b g p ≡ true → b.book.pool p ≡ g
+  pub own_pool : (g p : ℕ) → enrolled b g p ≡ true → b.book.pool p ≡ Some g
   pub in_window : (g p : ℕ) → enrolled b g p ≡ true → p < b.window.count
   pub is_present : (g p : ℕ) → enrolled b g p ≡ true → b.memory.has p ≡ true
   pub once : (g p : ℕ) → enrolled b g p ≡ true → count (λ q. nat_eq q p) (b.keeper.pages g) ≡ 1

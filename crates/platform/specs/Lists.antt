@@ -1,10 +1,6 @@
 -- Tests over lists and over numbers.
+use Rattle.std.specs.List.{list_any}
 use Rattle.std.specs.Prelude.{ℕ, zero, suc, ◌+◌, Bool, false, cond, ◌||◌, List, [], ◌∷◌, nat_eq}
-
--- whether some item passes a test
-abbrev pub any : {A : Type 0} → (A → Bool) → List A → Bool
-any f [] = false
-any f (x ∷ xs) = f x || any f xs
 
 -- whether some number below n passes a test
 abbrev pub any_below : (ℕ → Bool) → ℕ → Bool
@@ -13,7 +9,7 @@ any_below f (suc n) = f n || any_below f n
 
 -- whether a number stands in a list
 abbrev pub member : ℕ → List ℕ → Bool
-member p xs = any (λ x. nat_eq x p) xs
+member p xs = list_any (λ x. nat_eq x p) xs
 
 -- how many items pass a test
 abbrev pub count : {A : Type 0} → (A → Bool) → List A → ℕ

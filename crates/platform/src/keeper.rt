@@ -6,6 +6,7 @@ use crate::refusal::Refusal;
 use crate::units::{Guest, Page};
 
 // A page keeper: for each guest up to 64 enrolled pages, and which of them are free. `holdings` is its meaning.
+// kept: guest and page are two parameters, and no struct, since `take` and `free_count` have the guest alone.
 pub trait PageKeeper {
     ghost holdings: { Self → Keep };
 

@@ -1,16 +1,16 @@
 -- A refusal changes nothing.
-use Rattle.std.proofs.Common.{◌≡◌, true, rules}
+use Rattle.std.proofs.Common.{◌≡◌, true, is_err, rules}
 use Rattle.script.specs.declared.command.Command.{Command}
 use Rattle.script.specs.declared.command.Command.TheVariants.{Window, Present, Word, Pool, Grant, Start, Schedule, Switch, PagingOn, PagingOff, Flush, FlushPage, Fault, Load, Store, Status}
 use Rattle.runner.specs.States.{State}
-use Rattle.runner.specs.Turns.{is_refused, perform}
+use Rattle.runner.specs.Turns.{outcome_of, perform}
 
-pub refused_same : (s : State) (c : Command) → is_refused (perform s c).step.outcome ≡ true → (perform s c).after ≡ s
-refused_same s (Window first count) e = search rules
-refused_same s (Present first count) e = search rules
+pub refused_same : (s : State) (c : Command) → is_err (outcome_of (perform s c).step) ≡ true → (perform s c).after ≡ s
+refused_same s (Window pages) e = search rules
+refused_same s (Present pages) e = search rules
 refused_same s (Word page place word) e = search rules
-refused_same s (Pool g first count) e = search rules
-refused_same s (Grant g first count right) e = search rules
+refused_same s (Pool g pages) e = search rules
+refused_same s (Grant g pages right) e = search rules
 refused_same s Start e = search rules
 refused_same s (Schedule g) e = search rules
 refused_same s (Switch base) e = search rules

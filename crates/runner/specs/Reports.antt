@@ -1,17 +1,18 @@
 -- What the program prints for a script.
-use Rattle.std.specs.Prelude.{ℕ, ◌+◌, cond, ◌&&◌, List, [], ◌∷◌, take, nat_le}
+use Rattle.std.specs.Prelude.{ℕ, ◌+◌, cond, ◌&&◌, List, [], ◌∷◌, take, nat_le, Ok, Err, Result}
+use Rattle.std.specs.declared.ops.ControlFlow.{ControlFlow}
+use Rattle.std.specs.declared.ops.ControlFlow.TheVariants.{Continue, Break}
 use Rattle.platform.specs.declared.refusal.Refusal.{Refusal}
 use Rattle.platform.specs.declared.refusal.Refusal.TheVariants.{UnknownKind}
 use Rattle.script.specs.declared.command.Command.{Command}
-use Rattle.script.specs.declared.whole.Ending.{Ending}
-use Rattle.script.specs.declared.whole.Ending.TheVariants.{Complete, Refused}
+use Rattle.script.specs.declared.whole.BadRecord.{BadRecord}
+use Rattle.script.specs.Kinds.{kind_number}
 use Rattle.script.specs.Commands.{kind_of}
 use Rattle.script.specs.Scripts.{Contents, script_of}
 use Rattle.listing.specs.declared.line.Line.{Line}
-use Rattle.listing.specs.declared.outcome.Outcome.{Outcome}
 use Rattle.listing.specs.Texts.{listing_text}
 use Rattle.runner.specs.States.{State, opening}
-use Rattle.runner.specs.Turns.{Turn, perform}
+use Rattle.runner.specs.Turns.{Outcome, perform}
 
 abbrev pub line : ℕ → ℕ → Outcome → Line
 line n kind o = record { number = n; kind = kind; outcome = o }
@@ -21,22 +22,23 @@ abbrev pub known : ℕ → Refusal → Refusal
 known kind why = cond (nat_le 20 kind && nat_le kind 24) UnknownKind why
 
 -- the line of the record at which reading stopped, if any
-abbrev pub last_line : ℕ → Ending → List Line
-last_line n Complete = []
-last_line n (Refused kind why) = line n kind (Outcome.Refused (known kind why)) ∷ []
+abbrev pub last_line : ℕ → Result (Unit {0}) BadRecord → List Line
+last_line n (Ok x) = []
+last_line n (Err bad) = line n bad.kind (Err (known bad.kind bad.refusal)) ∷ []
 
 -- the line of the n-th record, of some kind, and then those that follow, unless the program stops
-abbrev pub turn_lines : ℕ → ℕ → Turn → List Line → List Line
-turn_lines n kind t rest = line n kind t.step.outcome ∷ cond t.step.stops [] rest
+abbrev pub turn_lines : ℕ → ℕ → ControlFlow Outcome Outcome → List Line → List Line
+turn_lines n kind (Continue o) rest = line n kind o ∷ rest
+turn_lines n kind (Break o) rest = line n kind o ∷ []
 
 -- the lines of commands, of which the first is that of the n-th record
-unfoldable pub lines_from : State → ℕ → List Command → Ending → List Line
+unfoldable pub lines_from : State → ℕ → List Command → Result (Unit {0}) BadRecord → List Line
 lines_from s n [] e = last_line n e
-lines_from s n (c ∷ cs) e = turn_lines n (kind_of c) (perform s c) (lines_from (perform s c).after (n + 1) cs e)
+lines_from s n (c ∷ cs) e = turn_lines n (kind_number (kind_of c)) (perform s c).step (lines_from (perform s c).after (n + 1) cs e)
 
 -- the lines of a whole script
 abbrev pub lines_of : Contents → List Line
-lines_of c = lines_from opening 1 c.commands c.ending
+lines_of c = lines_from opening 1 c.commands c.end
 
 -- all that is printed: of the input no more than its first 16,384 bytes count
 abbrev pub report_of : List ℕ → List ℕ

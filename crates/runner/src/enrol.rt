@@ -6,15 +6,15 @@ use platform::book::RightsBook;
 use platform::memory::Memory;
 use platform::units::Guest;
 
-// How many of the pages 0 to `count - 1` are in a guest's pool and in the memory.
+// The number that stands for no guest.
+// kept: a number. By it a caller may ask for the pages that are in no pool, as it may for a guest's.
+const NOBODY: Guest = 0;
+
+// How many of the pages 0 to `count - 1` are in a guest's pool and in the memory; for 0, in the memory and in no pool.
 pub fn enrollable<M: Memory, B: RightsBook>(memory: &M, book: &B, count: u32, guest: Guest) -> u32
     ensures answer { result ≡ enrollable_below (M.Memory.contents memory.now) (B.RightsBook.rules book.now) guest count }
 {
-    let mut found = 0;
-    for page in 0..count {
-        if book.pool(page) == guest && memory.has(page) {
-            found += 1;
-        }
-    }
-    found
+    (0..count)
+        .filter(|page| book.pool(*page).unwrap_or(NOBODY) == guest && memory.has(*page))
+        .count() as u32
 }

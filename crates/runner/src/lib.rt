@@ -6,5 +6,5 @@ mod run;
 mod session;
 
 pub use enrol::enrollable;
-pub use run::{report, transcript};
+pub use run::{LIMIT, report, transcript};
 pub use session::{Session, Step};

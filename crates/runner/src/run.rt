@@ -1,30 +1,30 @@
 // The listing of a script.
-ghost use Rattle.std.specs.Prelude.{◌≡◌, take, IfOk, string_bytes};
+ghost use Rattle.std.specs.Prelude.{◌≡◌, ◌+◌, ◌^◌, ◌<◌, take, IfOk, string_bytes};
+ghost use Rattle.script.specs.Kinds.{kind_number};
+ghost use Rattle.script.specs.Commands.{kind_of};
 ghost use Rattle.script.specs.Scripts.{contents};
-ghost use Rattle.runner.specs.Reports.{known, lines_of, report_of};
+ghost use Rattle.runner.specs.Reports.{line, known, lines_of, report_of};
 
 use crate::session::Session;
 use listing::{Line, Outcome, render};
 use platform::refusal::Refusal;
-use script::{Ending, Script, read_script};
+use script::{Command, Kind, Script, read_script};
 use std::alloc::{AllocError, Global};
+use std::ops::ControlFlow::{Break, Continue};
 
 // No more of the input is read.
-const LIMIT: usize = 16_384;
+pub const LIMIT: usize = 16_384;
 
-// The kinds of the calls that touch tables, which are not served yet.
-const FIRST_UNSERVED: u16 = 20;
-
-const LAST_UNSERVED: u16 = 24;
-
-// Why a record of some kind is refused: a kind that is not served yet is unknown, whatever the body.
+// Why a record of some kind is refused: the calls that touch tables are not served yet, and so their kinds are unknown,
+// whatever the body.
 fn known_refusal(kind: u16, refusal: Refusal) -> Refusal
     ensures answer { result ≡ known kind refusal }
 {
-    if FIRST_UNSERVED <= kind && kind <= LAST_UNSERVED {
-        Refusal::UnknownKind
-    } else {
-        refusal
+    match Kind::try_from(kind) {
+        Ok(Kind::Flush | Kind::FlushPage | Kind::Fault | Kind::Load | Kind::Store) => {
+            Refusal::UnknownKind
+        }
+        _ => refusal,
     }
 }
 
@@ -32,10 +32,18 @@ fn known_refusal(kind: u16, refusal: Refusal) -> Refusal
 fn within_limit(input: &[u8]) -> &[u8]
     ensures answer { result.now ≡ take 16384 input.now }
 {
-    if input.len() > LIMIT {
-        &input[0..LIMIT]
-    } else {
-        input
+    &input[..input.len().min(LIMIT)]
+}
+
+// The line of the command at a place of a script.
+fn line(i: usize, command: Command, outcome: Outcome) -> Line
+    requires { i < 2 ^ 63 }
+    ensures answer { result ≡ line (i + 1) (kind_number (kind_of command)) outcome }
+{
+    Line {
+        number: i as u64 + 1,
+        kind: u16::from(command.kind()),
+        outcome,
     }
 }
 
@@ -45,29 +53,23 @@ pub fn transcript(heap: Global, script: &Script) -> Result<Vec<Line>, AllocError
 {
     let mut session = Session::new(heap)?;
     let mut lines = Vec::with_capacity(heap, script.commands.len() + 1)?;
-    'commands: for i in 0..script.commands.len() {
-        let command = script.commands[i];
-        let step = session.perform(command);
+    'commands: for (i, command) in script.commands.iter().enumerate() {
+        match session.perform(*command) {
+            Continue(outcome) => lines.push_reserved(line(i, *command, outcome)),
+            Break(outcome) => {
+                lines.push_reserved(line(i, *command, outcome));
+                return Ok(lines);
+            }
+        }
+    }
+    if let Err(bad) = script.end {
         lines.push_reserved(Line {
-            number: i as u64 + 1,
-            kind: command.kind(),
-            outcome: step.outcome,
+            number: script.commands.len() as u64 + 1,
+            kind: bad.kind,
+            outcome: Err(known_refusal(bad.kind, bad.refusal)),
         });
-        if step.stops {
-            return Ok(lines);
-        }
     }
-    match script.ending {
-        Ending::Complete => Ok(lines),
-        Ending::Refused { kind, refusal } => {
-            lines.push_reserved(Line {
-                number: script.commands.len() as u64 + 1,
-                kind,
-                outcome: Outcome::Refused(known_refusal(kind, refusal)),
-            });
-            Ok(lines)
-        }
-    }
+    Ok(lines)
 }
 
 // All that the program prints for a script.

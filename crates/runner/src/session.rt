@@ -4,12 +4,15 @@ use guests::table::Guests;
 use listing::Outcome;
 use memories::listed::ListedPages;
 use platform::window::Window;
+use std::ops::ControlFlow;
 
 mod perform;
 mod setup;
 mod start;
 
 // The last accepted window, the memory, the rights book and the guests' records, and whether start was accepted.
+// kept: `started` is a flag, and not a type for each state. Records come in any order, and a refused one leaves the state.
+// kept: no `impl Model`, for the reason that `Guests` and `ListedPages` have none: a state has their functions in it.
 #[derive(Drop)]
 pub struct Session {
     window: Option<Window>,
@@ -19,9 +22,5 @@ pub struct Session {
     started: bool,
 }
 
-// What came of a command, and whether the program stops after it.
-#[derive(Clone, Copy)]
-pub struct Step {
-    pub outcome: Outcome,
-    pub stops: bool,
-}
+// What came of a command: the program goes on after it, or it stops.
+pub type Step = ControlFlow<Outcome, Outcome>;

@@ -1,10 +1,10 @@
 -- The law of reading a whole script: nothing is lost, and nothing is made up.
-use Rattle.std.specs.Prelude.{◌≡◌, ℕ, ◌⊎◌, List, [], ◌∷◌, ◌++◌, map, Ok, Err, Result}
+use Rattle.std.specs.List.{flat_map}
+use Rattle.std.specs.Prelude.{◌≡◌, ℕ, ◌⊎◌, List, [], ◌++◌, map, Ok, Err, Result}
 use Rattle.platform.specs.declared.refusal.Refusal.{Refusal}
 use Rattle.platform.specs.declared.refusal.Refusal.TheVariants.{RecordCut}
 use Rattle.script.specs.declared.command.Command.{Command}
-use Rattle.script.specs.declared.whole.Ending.{Ending}
-use Rattle.script.specs.declared.whole.Ending.TheVariants.{Complete, Refused}
+use Rattle.script.specs.declared.whole.BadRecord.{BadRecord}
 use Rattle.script.specs.Records.{found, refused, reading, spelling}
 use Rattle.script.specs.Commands.{command_of}
 
@@ -15,8 +15,7 @@ pub record RawRecord : Type 0 where
 
 -- the bytes of records, one after the other
 abbrev pub spellings : List RawRecord → List ℕ
-spellings [] = []
-spellings (r ∷ rs) = spelling r.kind r.body ++ spellings rs
+spellings rs = flat_map (λ r. spelling r.kind r.body) rs
 
 -- the command that a record says
 abbrev pub said : RawRecord → Result Command Refusal
@@ -30,16 +29,16 @@ BeginsCut left kind why = (reading left ≡ refused RecordCut) × (kind ≡ 0) �
 abbrev pub BeginsRefused : List ℕ → ℕ → Refusal → Type 0
 BeginsRefused left kind why = (body : List ℕ) × (reading left ≡ found kind body) × (command_of kind body ≡ Err why)
 
--- why reading stops before the bytes that are left
-abbrev pub Stops : List ℕ → Ending → Type 0
-Stops left Complete = left ≡ []
-Stops left (Refused kind why) = BeginsCut left kind why ⊎ BeginsRefused left kind why
+-- why reading stops before the bytes that are left: there are none, or they begin with a record that is refused
+abbrev pub Stops : List ℕ → Result (Unit {0}) BadRecord → Type 0
+Stops left (Ok done) = left ≡ []
+Stops left (Err b) = BeginsCut left b.kind b.refusal ⊎ BeginsRefused left b.kind b.refusal
 
 -- A script is the spelling of some records and what is left; those records say the commands, one by one;
 -- and what is left is why reading stopped.
-pub record ReadsWhole (xs : List ℕ) (commands : List Command) (ending : Ending) : Type 0 where
+pub record ReadsWhole (xs : List ℕ) (commands : List Command) (end : Result (Unit {0}) BadRecord) : Type 0 where
   pub records : List RawRecord
   pub left : List ℕ
   pub spelled : xs ≡ spellings records ++ left
   pub decoded : map said records ≡ map Ok commands
-  pub stops : Stops left ending
+  pub stops : Stops left end

@@ -1,6 +1,6 @@
 pub mod Fields
-pub mod Records
-pub mod Readers
+pub mod Kinds
 pub mod Commands
+pub mod Records
 pub mod Scripts
 pub mod Laws

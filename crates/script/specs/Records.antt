@@ -1,5 +1,5 @@
--- What stands in a script at a place, and how a record is spelled.
-use Rattle.std.specs.Prelude.{◌≡◌, ℕ, ◌+◌, ◌-◌, ◌/◌, ◌%◌, Bool, cond, ◌&&◌, List, [], ◌∷◌, ◌++◌, length, take, drop, Some, None, Ok, Err, Option, Result, ◌==◌, nat_le}
+-- What stands next in a script, and how a record is spelled.
+use Rattle.std.specs.Prelude.{◌≡◌, ℕ, ◌+◌, ◌-◌, ◌/◌, ◌%◌, Bool, if◌then◌else◌, ◌&&◌, List, [], ◌∷◌, ◌++◌, length, take, drop, Some, None, Ok, Err, Option, Result, ◌==◌, nat_le}
 use Rattle.platform.specs.declared.refusal.Refusal.{Refusal}
 use Rattle.platform.specs.declared.refusal.Refusal.TheVariants.{RecordCut}
 use Rattle.script.specs.declared.record.Record.{Record}
@@ -18,19 +18,15 @@ whole xs = nat_le 2 (field xs 0 2) && nat_le (2 + field xs 0 2) (length xs)
 -- what some bytes begin with: a length of 2 bytes, a kind of 2 bytes, and the body
 abbrev pub reading : List ℕ → Reading
 reading xs =
-    cond (length xs == 0) ended
-    (cond (whole xs) (found (field xs 2 2) (take (field xs 0 2 - 2) (drop 4 xs)))
-    (refused RecordCut))
+    if length xs == 0 then ended
+    else if whole xs then found (field xs 2 2) (take (field xs 0 2 - 2) (drop 4 xs))
+    else refused RecordCut
 
--- what stands at a place
-abbrev pub reading_at : List ℕ → ℕ → Reading
-reading_at xs place = reading (drop place xs)
-
--- where reading goes on: past a record; a refusal and the end are not passed
-abbrev pub place_after : Reading → ℕ → ℕ
-place_after (found kind body) place = place + 4 + length body
-place_after (refused why) place = place
-place_after ended place = place
+-- what is left after it: a record is passed; a refusal and the end are not
+abbrev pub rest_after : Reading → List ℕ → List ℕ
+rest_after (found kind body) xs = drop (4 + length body) xs
+rest_after (refused why) xs = xs
+rest_after ended xs = xs
 
 -- what a call of `next` answered, with no reference in it
 abbrev pub seen : Result (Option Record) Refusal → Reading

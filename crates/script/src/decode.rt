@@ -1,101 +1,56 @@
 // What command a record says.
 ghost use Rattle.std.specs.Prelude.{◌≡◌, IfOk};
-ghost use Rattle.script.specs.Commands.{kind_of, set_up_of, call_of, command_of};
+ghost use Rattle.script.specs.Kinds.{kind_number};
+ghost use Rattle.script.specs.Commands.{kind_of, said_by, at_end, command_of};
 
 use super::command::Command;
-use super::fields::{BYTE, HALFWORD, WORD, byte_at, halfword_at, word_at};
-use super::kinds;
+use super::fields::Fields;
+use super::kind::Kind;
 use super::record::Record;
 use platform::access::Access;
 use platform::refusal::Refusal;
 
-// The lengths of bodies in bytes, each named by the fields that it holds.
-const NO_FIELD: usize = 0;
-
-const GUEST: usize = BYTE;
-
-const ADDRESS: usize = WORD;
-
-const ADDRESS_ACCESS: usize = WORD + BYTE;
-
-const ADDRESS_WORD: usize = WORD + WORD;
-
-const FIRST_COUNT: usize = WORD + WORD;
-
-const PAGE_PLACE_WORD: usize = WORD + HALFWORD + WORD;
-
-const GUEST_FIRST_COUNT: usize = BYTE + WORD + WORD;
-
-const GUEST_FIRST_COUNT_RIGHT: usize = BYTE + WORD + WORD + BYTE;
-
-// The command of a record that sets up.
-fn set_up(kind: u16, body: &[u8]) -> Result<Command, Refusal>
-    ensures answer { result ≡ set_up_of kind body.now }
-    ensures kind { IfOk result (λ c. kind_of c ≡ kind) }
-{
-    match (kind, body.len()) {
-        (kinds::WINDOW, FIRST_COUNT) => Ok(Command::Window {
-            first: word_at(body, 0),
-            count: word_at(body, WORD),
-        }),
-        (kinds::PRESENT, FIRST_COUNT) => Ok(Command::Present {
-            first: word_at(body, 0),
-            count: word_at(body, WORD),
-        }),
-        (kinds::WORD, PAGE_PLACE_WORD) => Ok(Command::Word {
-            page: word_at(body, 0),
-            place: halfword_at(body, WORD),
-            word: word_at(body, WORD + HALFWORD),
-        }),
-        (kinds::POOL, GUEST_FIRST_COUNT) => Ok(Command::Pool {
-            guest: byte_at(body, 0),
-            first: word_at(body, BYTE),
-            count: word_at(body, BYTE + WORD),
-        }),
-        (kinds::GRANT, GUEST_FIRST_COUNT_RIGHT) => Ok(Command::Grant {
-            guest: byte_at(body, 0),
-            first: word_at(body, BYTE),
-            count: word_at(body, BYTE + WORD),
-            right: byte_at(body, BYTE + WORD + WORD),
-        }),
-        (kinds::START, NO_FIELD) => Ok(Command::Start),
-        (kinds::WINDOW..=kinds::START, _) => Err(Refusal::WrongLength),
-        _ => Err(Refusal::UnknownKind),
-    }
-}
-
-// The command of a record that calls.
-fn call(kind: u16, body: &[u8]) -> Result<Command, Refusal>
-    ensures answer { result ≡ call_of kind body.now }
-    ensures kind { IfOk result (λ c. kind_of c ≡ kind) }
-{
-    match (kind, body.len()) {
-        (kinds::SCHEDULE, GUEST) => Ok(Command::Schedule {
-            guest: byte_at(body, 0),
-        }),
-        (kinds::SWITCH, ADDRESS) => Ok(Command::Switch {
-            base: word_at(body, 0),
-        }),
-        (kinds::PAGING_ON, NO_FIELD) => Ok(Command::PagingOn),
-        (kinds::PAGING_OFF, NO_FIELD) => Ok(Command::PagingOff),
-        (kinds::FLUSH, NO_FIELD) => Ok(Command::Flush),
-        (kinds::FLUSH_PAGE, ADDRESS) => Ok(Command::FlushPage {
-            address: word_at(body, 0),
-        }),
-        (kinds::FAULT, ADDRESS_ACCESS) => Ok(Command::Fault {
-            address: word_at(body, 0),
-            access: Access::numbered(byte_at(body, WORD)),
-        }),
-        (kinds::LOAD, ADDRESS) => Ok(Command::Load {
-            address: word_at(body, 0),
-        }),
-        (kinds::STORE, ADDRESS_WORD) => Ok(Command::Store {
-            address: word_at(body, 0),
-            word: word_at(body, WORD),
-        }),
-        (kinds::STATUS, NO_FIELD) => Ok(Command::Status),
-        (kinds::SCHEDULE..=kinds::STATUS, _) => Err(Refusal::WrongLength),
-        _ => Err(Refusal::UnknownKind),
+impl<'a> Fields<'a> {
+    // The command of a kind that the next fields say.
+    fn command(&mut self, kind: Kind) -> Result<Command, Refusal>
+        ensures answer { at_end self.new.rest.now result ≡ said_by kind self.old.rest.now }
+        ensures kind { IfOk result (λ c. kind_of c ≡ kind) }
+    {
+        match kind {
+            Kind::Window => Ok(Command::Window(self.span()?)),
+            Kind::Present => Ok(Command::Present(self.span()?)),
+            Kind::Word => Ok(Command::Word {
+                page: self.word()?,
+                place: self.halfword()?,
+                word: self.word()?,
+            }),
+            Kind::Pool => Ok(Command::Pool {
+                guest: self.byte()?,
+                span: self.span()?,
+            }),
+            Kind::Grant => Ok(Command::Grant {
+                guest: self.byte()?,
+                span: self.span()?,
+                right: self.byte()?,
+            }),
+            Kind::Start => Ok(Command::Start),
+            Kind::Schedule => Ok(Command::Schedule(self.byte()?)),
+            Kind::Switch => Ok(Command::Switch(self.word()?)),
+            Kind::PagingOn => Ok(Command::PagingOn),
+            Kind::PagingOff => Ok(Command::PagingOff),
+            Kind::Flush => Ok(Command::Flush),
+            Kind::FlushPage => Ok(Command::FlushPage(self.word()?)),
+            Kind::Fault => Ok(Command::Fault {
+                address: self.word()?,
+                access: Access::from(self.byte()?),
+            }),
+            Kind::Load => Ok(Command::Load(self.word()?)),
+            Kind::Store => Ok(Command::Store {
+                address: self.word()?,
+                word: self.word()?,
+            }),
+            Kind::Status => Ok(Command::Status),
+        }
     }
 }
 
@@ -103,12 +58,12 @@ impl<'a> Record<'a> {
     // The command that the record says. An unknown kind is refused, and so is a body of another length than its kind has.
     pub fn command(&self) -> Result<Command, Refusal>
         ensures answer { result ≡ command_of self.now.kind self.now.body.now }
-        ensures kind { IfOk result (λ c. kind_of c ≡ self.now.kind) }
+        ensures kind { IfOk result (λ c. kind_number (kind_of c) ≡ self.now.kind) }
     {
-        if self.kind <= kinds::START {
-            set_up(self.kind, self.body)
-        } else {
-            call(self.kind, self.body)
-        }
+        let kind = Kind::try_from(self.kind)?;
+        let mut fields = Fields::new(self.body);
+        let command = fields.command(kind)?;
+        fields.end()?;
+        Ok(command)
     }
 }

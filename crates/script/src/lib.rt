@@ -5,12 +5,13 @@
 mod command;
 mod decode;
 mod fields;
-pub mod kinds;
+mod kind;
 mod reader;
 mod record;
 mod whole;
 
 pub use command::Command;
+pub use kind::{CUT_KIND, Kind};
 pub use reader::ScriptReader;
 pub use record::Record;
-pub use whole::{Ending, Script, read_script};
+pub use whole::{BadRecord, Script, read_script};

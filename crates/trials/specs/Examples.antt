@@ -10,7 +10,6 @@ use Rattle.descriptor.specs.Addresses.{first_index, second_index}
 use Rattle.descriptor.specs.Entries.{first_level, second_level}
 use Rattle.descriptor.specs.Shadow.{leaf_word}
 use Rattle.walk.specs.declared.abort.Abort.{Abort}
-use Rattle.walk.specs.declared.mapping.Paging.TheVariants.{On}
 use Rattle.walk.specs.Aborts.{code}
 use Rattle.walk.specs.Sights.{Sight}
 use Rattle.walk.specs.Walks.{ask_first, walk_answer}
@@ -29,7 +28,7 @@ abbrev pub examples : Sight → ℕ → Access → List (Type 0)
 examples s b x =
     (first_index 0x00502000 ≡ 5)
     ∷ (second_index 0x00502000 ≡ 2)
-    ∷ (aborted (walk_answer s (On b) 0x40000000 x) ≡ 0x05)
+    ∷ (aborted (walk_answer s (Some b) 0x40000000 x) ≡ 0x05)
     ∷ (first_level 0x00100C02 0x00502000 ≡ Section 0x102 Write)
     ∷ (aborted (ask_first s 0x00140C02 0x00502000) ≡ 0x05)
     ∷ (first_level 0x00101C01 0x00502000 ≡ Table 0x101 770)

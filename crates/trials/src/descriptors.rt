@@ -30,69 +30,140 @@ fn addresses_are_cut_at_their_edges(rt: HostRuntime) -> Result<(), Fail> {
     Ok(())
 }
 
-// What a word says, as numbers to compare: a word of a table, a page and its right's rank, or nothing.
-#[derive(Clone, Copy, PartialEq, Debug)]
-enum Says {
-    Nothing,
-    Table(u32, u32),
-    Page(u32, u8),
-    Supersection,
-}
-
-fn said_first(word: Word, va: Address) -> Says {
-    match first_level(word, va) {
-        FirstLevel::Invalid => Says::Nothing,
-        FirstLevel::Table { page, place } => Says::Table(page, place),
-        FirstLevel::Section { page, right } => Says::Page(page, right.rank()),
-        FirstLevel::Supersection => Says::Supersection,
-    }
-}
-
-fn said_second(word: Word, va: Address) -> Says {
-    match second_level(word, va) {
-        SecondLevel::Invalid => Says::Nothing,
-        SecondLevel::LargePage { page, right } | SecondLevel::SmallPage { page, right } => {
-            Says::Page(page, right.rank())
-        }
-    }
-}
-
 // Word, address, and what a first-level table says by it. Bits that the format leaves to domains, memory types
 // and execute-never do not count.
-const FIRST_LEVEL: [(Word, Address, Says); 10] = [
-    (0x0000_0000, 0x0050_2000, Says::Nothing),
-    (0xFFFF_FFFC, 0x0050_2000, Says::Nothing),
-    (0x0010_0C03, 0x0050_2000, Says::Nothing),
-    (0x0010_0C02, 0x0050_2000, Says::Page(0x102, 2)),
-    (0xFFF0_8C02, 0x3FFF_FFFF, Says::Page(0xFFFFF, 1)),
-    (0xFFFB_FFFE, 0xFFFF_FFFF, Says::Page(0xFFFFF, 1)),
-    (0x0014_0C02, 0x0050_2000, Says::Supersection),
-    (0x0010_1C01, 0x0050_2000, Says::Table(0x101, 770)),
-    (0x0010_13FD, 0x0050_2000, Says::Table(0x101, 2)),
-    (0xFFFF_FFFD, 0xFFFF_FFFF, Says::Table(0xFFFFF, 1023)),
+const FIRST_LEVEL: [(Word, Address, FirstLevel); 10] = [
+    (0x0000_0000, 0x0050_2000, FirstLevel::Invalid),
+    (0xFFFF_FFFC, 0x0050_2000, FirstLevel::Invalid),
+    (0x0010_0C03, 0x0050_2000, FirstLevel::Invalid),
+    (
+        0x0010_0C02,
+        0x0050_2000,
+        FirstLevel::Section {
+            page: 0x102,
+            right: Right::Write,
+        },
+    ),
+    (
+        0xFFF0_8C02,
+        0x3FFF_FFFF,
+        FirstLevel::Section {
+            page: 0xFFFFF,
+            right: Right::Read,
+        },
+    ),
+    (
+        0xFFFB_FFFE,
+        0xFFFF_FFFF,
+        FirstLevel::Section {
+            page: 0xFFFFF,
+            right: Right::Read,
+        },
+    ),
+    (0x0014_0C02, 0x0050_2000, FirstLevel::Supersection),
+    (
+        0x0010_1C01,
+        0x0050_2000,
+        FirstLevel::Table {
+            page: 0x101,
+            place: 770,
+        },
+    ),
+    (
+        0x0010_13FD,
+        0x0050_2000,
+        FirstLevel::Table {
+            page: 0x101,
+            place: 2,
+        },
+    ),
+    (
+        0xFFFF_FFFD,
+        0xFFFF_FFFF,
+        FirstLevel::Table {
+            page: 0xFFFFF,
+            place: 1023,
+        },
+    ),
 ];
 
 // Word, address, and what a second-level table says by it.
-const SECOND_LEVEL: [(Word, Address, Says); 10] = [
-    (0x0000_0000, 0x0050_3000, Says::Nothing),
-    (0xFFFF_FFFC, 0x0050_3000, Says::Nothing),
-    (0x0011_0031, 0x0050_3000, Says::Page(0x113, 2)),
-    (0x0011_F031, 0x0050_3000, Says::Page(0x113, 2)),
-    (0xFFFF_0201, 0xFFFF_FFFF, Says::Page(0xFFFFF, 0)),
-    (0x0010_4232, 0x0050_3000, Says::Page(0x104, 1)),
-    (0x0010_4233, 0x0050_3000, Says::Page(0x104, 1)),
-    (0x0010_4DCE, 0x0050_3000, Says::Page(0x104, 0)),
-    (0x0010_4012, 0xFFFF_FFFF, Says::Page(0x104, 2)),
-    (0xFFFF_FFFF, 0x0000_0000, Says::Page(0xFFFFF, 1)),
+const SECOND_LEVEL: [(Word, Address, SecondLevel); 10] = [
+    (0x0000_0000, 0x0050_3000, SecondLevel::Invalid),
+    (0xFFFF_FFFC, 0x0050_3000, SecondLevel::Invalid),
+    (
+        0x0011_0031,
+        0x0050_3000,
+        SecondLevel::LargePage {
+            page: 0x113,
+            right: Right::Write,
+        },
+    ),
+    (
+        0x0011_F031,
+        0x0050_3000,
+        SecondLevel::LargePage {
+            page: 0x113,
+            right: Right::Write,
+        },
+    ),
+    (
+        0xFFFF_0201,
+        0xFFFF_FFFF,
+        SecondLevel::LargePage {
+            page: 0xFFFFF,
+            right: Right::Nothing,
+        },
+    ),
+    (
+        0x0010_4232,
+        0x0050_3000,
+        SecondLevel::SmallPage {
+            page: 0x104,
+            right: Right::Read,
+        },
+    ),
+    (
+        0x0010_4233,
+        0x0050_3000,
+        SecondLevel::SmallPage {
+            page: 0x104,
+            right: Right::Read,
+        },
+    ),
+    (
+        0x0010_4DCE,
+        0x0050_3000,
+        SecondLevel::SmallPage {
+            page: 0x104,
+            right: Right::Nothing,
+        },
+    ),
+    (
+        0x0010_4012,
+        0xFFFF_FFFF,
+        SecondLevel::SmallPage {
+            page: 0x104,
+            right: Right::Write,
+        },
+    ),
+    (
+        0xFFFF_FFFF,
+        0x0000_0000,
+        SecondLevel::SmallPage {
+            page: 0xFFFFF,
+            right: Right::Read,
+        },
+    ),
 ];
 
 #[test]
 fn table_words_say_what_their_fields_say(rt: HostRuntime) -> Result<(), Fail> {
     for (word, va, says) in FIRST_LEVEL {
-        assert_eq!(rt; said_first(word, va), says);
+        assert_eq!(rt; first_level(word, va), says);
     }
     for (word, va, says) in SECOND_LEVEL {
-        assert_eq!(rt; said_second(word, va), says);
+        assert_eq!(rt; second_level(word, va), says);
     }
     Ok(())
 }
@@ -111,16 +182,13 @@ fn shadow_words_read_back(rt: HostRuntime) -> Result<(), Fail> {
         assert_eq!(rt; root_word(page), root);
         assert_eq!(rt; leaf_word(page, Right::Write), writable);
         assert_eq!(rt; leaf_word(page, Right::Read), readable);
-        for (va, second) in [(0x0000_0000u32, 0u32), (0x0050_2000, 2), (0x3FFF_FFFF, 255)] {
-            assert_eq!(rt; said_first(root_word(page), va), Says::Table(page, second));
-            assert_eq!(rt;
-                said_second(leaf_word(page, Right::Write), va),
-                Says::Page(page, 2)
-            );
-            assert_eq!(rt;
-                said_second(leaf_word(page, Right::Read), va),
-                Says::Page(page, 1)
-            );
+        for (va, place) in [(0x0000_0000u32, 0u32), (0x0050_2000, 2), (0x3FFF_FFFF, 255)] {
+            let leaf = FirstLevel::Table { page, place };
+            assert_eq!(rt; first_level(root_word(page), va), leaf);
+            for right in [Right::Write, Right::Read] {
+                let mapped = SecondLevel::SmallPage { page, right };
+                assert_eq!(rt; second_level(leaf_word(page, right), va), mapped);
+            }
         }
     }
     Ok(())

@@ -2,8 +2,6 @@
 ghost use Rattle.trials.specs.Examples.{WorkedExamples};
 
 // Every worked example holds, for any guest's sight, base and access.
-pub fn worked_examples_hold() -> u8
+pub fn worked_examples_hold()
     ensures law { WorkedExamples }
-{
-    0
-}
+{}

@@ -1,11 +1,9 @@
-// What tests compare: the number of a refusal, or 0.
+// What tests compare: an answer with the number of its refusal.
 use platform::refusal::Refusal;
 
-pub const OK: u8 = 0;
+// A call that was served, and has nothing to tell.
+pub const OK: Result<(), u8> = Ok(());
 
-pub fn refusal_number(answer: Result<(), Refusal>) -> u8 {
-    match answer {
-        Ok(()) => OK,
-        Err(refusal) => refusal.number(),
-    }
+pub fn numbered<T: Drop>(answer: Result<T, Refusal>) -> Result<T, u8> {
+    answer.map_err(u8::from)
 }

@@ -1,34 +1,25 @@
 // Both page keepers.
-use super::numbers::{OK, refusal_number};
+use super::numbers::{OK, numbered};
 use keepers::marks::MarksKeeper;
 use keepers::stack::StackKeeper;
 use keepers::uses::exchange;
 use platform::keeper::PageKeeper;
-use platform::refusal::Refusal;
 use platform::units::{GUESTS, Guest, Page};
 use std::process::Abort;
 use std::test::*;
 
-// A page or a count, or the number of a refusal.
-fn numbered(answer: Result<u32, Refusal>) -> Result<u32, u8> {
-    match answer {
-        Ok(number) => Ok(number),
-        Err(refusal) => Err(refusal.number()),
-    }
-}
-
 // One enrolment after another on a keeper without pages: guest, page, and the refusal.
-const ENROLMENTS: [(Guest, Page, u8); 10] = [
-    (0, 10, 21),
-    (9, 10, 21),
+const ENROLMENTS: [(Guest, Page, Result<(), u8>); 10] = [
+    (0, 10, Err(21)),
+    (9, 10, Err(21)),
     (1, 10, OK),
-    (1, 10, 33),
-    (2, 10, 33),
-    (0, 10, 21),
-    (9, 10, 21),
+    (1, 10, Err(33)),
+    (2, 10, Err(33)),
+    (0, 10, Err(21)),
+    (9, 10, Err(21)),
     (8, 20, OK),
-    (1, 20, 33),
-    (7, 20, 33),
+    (1, 20, Err(33)),
+    (7, 20, Err(33)),
 ];
 
 // How many pages of each guest are then free.
@@ -50,22 +41,22 @@ const TAKES: [(Guest, Result<Page, u8>); 5] = [
 ];
 
 // With page 10 taken and page 20 free: guest, the page that it gives, and the refusal.
-const GIVES: [(Guest, Page, u8); 9] = [
-    (0, 10, 21),
-    (9, 10, 21),
-    (2, 10, 33),
-    (8, 10, 33),
-    (1, 11, 33),
-    (1, 20, 33),
-    (8, 20, 33),
+const GIVES: [(Guest, Page, Result<(), u8>); 9] = [
+    (0, 10, Err(21)),
+    (9, 10, Err(21)),
+    (2, 10, Err(33)),
+    (8, 10, Err(33)),
+    (1, 11, Err(33)),
+    (1, 20, Err(33)),
+    (8, 20, Err(33)),
     (1, 10, OK),
-    (1, 10, 33),
+    (1, 10, Err(33)),
 ];
 
 // What the rules say of any keeper without pages.
 fn keeps_its_meaning<K: PageKeeper>(rt: &impl Abort, keeper: &mut K) -> Result<(), Fail> {
     for (guest, page, expected) in ENROLMENTS {
-        assert_eq!(rt; refusal_number(keeper.enrol(guest, page)), expected);
+        assert_eq!(rt; numbered(keeper.enrol(guest, page)), expected);
     }
     for (guest, expected) in FREE_COUNTS {
         assert_eq!(rt; numbered(keeper.free_count(guest)), expected);
@@ -76,7 +67,7 @@ fn keeps_its_meaning<K: PageKeeper>(rt: &impl Abort, keeper: &mut K) -> Result<(
     assert_eq!(rt; numbered(keeper.free_count(1)), Ok(0));
     assert_eq!(rt; numbered(keeper.free_count(8)), Ok(1));
     for (guest, page, expected) in GIVES {
-        assert_eq!(rt; refusal_number(keeper.give(guest, page)), expected);
+        assert_eq!(rt; numbered(keeper.give(guest, page)), expected);
     }
     assert_eq!(rt; numbered(keeper.free_count(1)), Ok(1));
     keeps_64_pages(rt, keeper)?;
@@ -84,31 +75,31 @@ fn keeps_its_meaning<K: PageKeeper>(rt: &impl Abort, keeper: &mut K) -> Result<(
     for guest in 1..=GUESTS {
         assert_eq!(rt; numbered(keeper.free_count(guest)), Ok(0));
     }
-    assert_eq!(rt; refusal_number(keeper.give(3, 100)), 33);
-    assert_eq!(rt; refusal_number(keeper.enrol(2, 10)), OK);
+    assert_eq!(rt; numbered(keeper.give(3, 100)), Err(33));
+    assert_eq!(rt; numbered(keeper.enrol(2, 10)), OK);
     Ok(())
 }
 
 // Guest 3 enrols pages 100 to 163, and takes each of them once.
 fn keeps_64_pages<K: PageKeeper>(rt: &impl Abort, keeper: &mut K) -> Result<(), Fail> {
     for page in 100..164u32 {
-        assert_eq!(rt; refusal_number(keeper.enrol(3, page)), OK);
+        assert_eq!(rt; numbered(keeper.enrol(3, page)), OK);
     }
-    assert_eq!(rt; refusal_number(keeper.enrol(3, 164)), 33);
-    assert_eq!(rt; refusal_number(keeper.enrol(4, 164)), OK);
+    assert_eq!(rt; numbered(keeper.enrol(3, 164)), Err(33));
+    assert_eq!(rt; numbered(keeper.enrol(4, 164)), OK);
     let mut taken = [false; 64];
-    for i in 0..64u32 {
-        assert_eq!(rt; numbered(keeper.free_count(3)), Ok(64 - i));
+    for free in (1..=64u32).rev() {
+        assert_eq!(rt; numbered(keeper.free_count(3)), Ok(free));
         let Ok(page) = keeper.take(3) else {
             return Err(Fail::new("a free page is not taken"));
         };
-        assert!(rt; page >= 100 && page < 164);
+        assert!(rt; (100..164).contains(&page));
         assert!(rt; !taken[(page - 100) as usize]);
         taken[(page - 100) as usize] = true;
     }
     assert_eq!(rt; numbered(keeper.free_count(3)), Ok(0));
     assert_eq!(rt; numbered(keeper.take(3)), Err(33));
-    assert_eq!(rt; refusal_number(keeper.enrol(3, 165)), 33);
+    assert_eq!(rt; numbered(keeper.enrol(3, 165)), Err(33));
     Ok(())
 }
 
@@ -133,10 +124,10 @@ enum Step {
 
 // Each call of a list is answered so.
 fn follows<K: PageKeeper>(rt: &impl Abort, keeper: &mut K, steps: &[Step]) -> Result<(), Fail> {
-    for i in 0..steps.len() {
-        match steps[i] {
-            Step::Enrols(page) => assert_eq!(rt; refusal_number(keeper.enrol(1, page)), OK),
-            Step::Gives(page) => assert_eq!(rt; refusal_number(keeper.give(1, page)), OK),
+    for step in steps {
+        match *step {
+            Step::Enrols(page) => assert_eq!(rt; numbered(keeper.enrol(1, page)), OK),
+            Step::Gives(page) => assert_eq!(rt; numbered(keeper.give(1, page)), OK),
             Step::Takes(page) => assert_eq!(rt; numbered(keeper.take(1)), Ok(page)),
             Step::HasNone => assert_eq!(rt; numbered(keeper.take(1)), Err(33)),
         }
@@ -205,14 +196,13 @@ fn exchanges<K: PageKeeper>(
     pairs: &[(Page, Page)],
 ) -> Result<(), Fail> {
     for page in 10..13u32 {
-        assert_eq!(rt; refusal_number(keeper.enrol(2, page)), OK);
+        assert_eq!(rt; numbered(keeper.enrol(2, page)), OK);
     }
     assert!(rt; keeper.take(2).is_ok());
     for (guest, page, expected) in NO_EXCHANGES {
         assert_eq!(rt; numbered(exchange(keeper, guest, page)), Err(expected));
     }
-    for i in 0..pairs.len() {
-        let (page, expected) = pairs[i];
+    for &(page, expected) in pairs {
         assert_eq!(rt; numbered(exchange(keeper, 2, page)), Ok(expected));
         assert_eq!(rt; numbered(keeper.free_count(2)), Ok(2));
     }

@@ -1,7 +1,9 @@
 // Records of every kind, whole and cut, and their fields.
+use super::numbers::numbered;
 use platform::access::Access;
 use platform::refusal::Refusal;
-use script::{Command, Ending, Record, ScriptReader, read_script};
+use platform::span::Span;
+use script::{Command, Record, ScriptReader, read_script};
 use std::alloc::{AllocError, Global};
 use std::test::*;
 
@@ -36,30 +38,28 @@ pub fn record(heap: Global, kind: u16, length: u16) -> Result<Vec<u8>, AllocErro
     Ok(bytes)
 }
 
-// The number of the refusal of the first record, or 0.
-fn first_refusal(input: &[u8]) -> u8 {
-    match ScriptReader::new(input).next() {
-        Ok(Some(record)) => match record.command() {
-            Ok(_) => 0,
-            Err(refusal) => refusal.number(),
-        },
-        Ok(None) => 0,
-        Err(refusal) => refusal.number(),
-    }
+// The number of the refusal of the first record, if it is refused.
+fn first_refusal(input: &[u8]) -> Option<u8> {
+    let record = ScriptReader::new(input).next();
+    let command = record.and_then(|found| match found {
+        Some(record) => record.command().map(Some),
+        None => Ok(None),
+    });
+    numbered(command).err()
 }
 
 #[test]
 fn every_kind_whole_and_cut(rt: HostRuntime) -> Result<(), Fail> {
     for (kind, length) in KINDS {
         let bytes = record(rt.alloc(), kind, length)?;
-        assert_eq!(rt; first_refusal(bytes.as_slice()), 0);
+        assert_eq!(rt; first_refusal(bytes.as_slice()), None);
         for n in 1..bytes.len() {
-            assert_eq!(rt; first_refusal(&bytes.as_slice()[0..n]), 34);
+            assert_eq!(rt; first_refusal(&bytes.as_slice()[0..n]), Some(34));
         }
         let script = read_script(rt.alloc(), bytes.as_slice())?;
         assert!(rt; script.commands.len() == 1);
-        assert_eq!(rt; script.commands[0].kind(), kind);
-        assert!(rt; matches!(script.ending, Ending::Complete));
+        assert_eq!(rt; u16::from(script.commands[0].kind()), kind);
+        assert_eq!(rt; script.end, Ok(()));
     }
     Ok(())
 }
@@ -68,7 +68,7 @@ fn every_kind_whole_and_cut(rt: HostRuntime) -> Result<(), Fail> {
 fn every_other_length_is_refused(rt: HostRuntime) -> Result<(), Fail> {
     for (kind, length) in KINDS {
         for other in 0..12u16 {
-            let expected = if other == length { 0 } else { 36 };
+            let expected = (other != length).then_some(36);
             let bytes = record(rt.alloc(), kind, other)?;
             assert_eq!(rt; first_refusal(bytes.as_slice()), expected);
         }
@@ -81,7 +81,7 @@ fn every_other_kind_is_unknown(rt: HostRuntime) -> Result<(), Fail> {
     for kind in [0u16, 7, 15, 26, 255, 256, 257, 65_535] {
         for length in 0..12u16 {
             let bytes = record(rt.alloc(), kind, length)?;
-            assert_eq!(rt; first_refusal(bytes.as_slice()), 35);
+            assert_eq!(rt; first_refusal(bytes.as_slice()), Some(35));
         }
     }
     Ok(())
@@ -89,10 +89,10 @@ fn every_other_kind_is_unknown(rt: HostRuntime) -> Result<(), Fail> {
 
 #[test]
 fn a_length_below_two_is_a_cut(rt: HostRuntime) -> Result<(), Fail> {
-    assert_eq!(rt; first_refusal(&[0, 0, 20, 0]), 34);
-    assert_eq!(rt; first_refusal(&[1, 0, 20, 0, 0]), 34);
-    assert_eq!(rt; first_refusal(&[2, 0, 20, 0]), 0);
-    assert_eq!(rt; first_refusal(&[2, 1, 20, 0]), 34);
+    assert_eq!(rt; first_refusal(&[0, 0, 20, 0]), Some(34));
+    assert_eq!(rt; first_refusal(&[1, 0, 20, 0, 0]), Some(34));
+    assert_eq!(rt; first_refusal(&[2, 0, 20, 0]), None);
+    assert_eq!(rt; first_refusal(&[2, 1, 20, 0]), Some(34));
     Ok(())
 }
 
@@ -104,123 +104,88 @@ fn command(kind: u16, body: &[u8]) -> Result<Command, Refusal> {
 #[test]
 fn fields_stand_in_order(rt: HostRuntime) -> Result<(), Fail> {
     let bytes = [1u8, 2, 3, 4, 5, 6, 7, 8, 9, 10];
-    assert!(rt;
-        matches!(
-            command(1, &bytes[0..8]),
-            Ok(Command::Window {
-                first: 0x04030201,
-                count: 0x08070605
-            })
-        )
+    assert_eq!(rt;
+        command(1, &bytes[0..8]),
+        Ok(Command::Window(Span {
+            first: 0x04030201,
+            count: 0x08070605
+        }))
     );
-    assert!(rt;
-        matches!(
-            command(2, &bytes[0..8]),
-            Ok(Command::Present {
-                first: 0x04030201,
-                count: 0x08070605
-            })
-        )
+    assert_eq!(rt;
+        command(2, &bytes[0..8]),
+        Ok(Command::Present(Span {
+            first: 0x04030201,
+            count: 0x08070605
+        }))
     );
-    assert!(rt;
-        matches!(
-            command(3, &bytes),
-            Ok(Command::Word {
-                page: 0x04030201,
-                place: 0x0605,
-                word: 0x0A090807
-            })
-        )
+    assert_eq!(rt;
+        command(3, &bytes),
+        Ok(Command::Word {
+            page: 0x04030201,
+            place: 0x0605,
+            word: 0x0A090807
+        })
     );
-    assert!(rt;
-        matches!(
-            command(4, &bytes[0..9]),
-            Ok(Command::Pool {
-                guest: 1,
+    assert_eq!(rt;
+        command(4, &bytes[0..9]),
+        Ok(Command::Pool {
+            guest: 1,
+            span: Span {
                 first: 0x05040302,
                 count: 0x09080706
-            })
-        )
+            }
+        })
     );
-    assert!(rt;
-        matches!(
-            command(5, &bytes),
-            Ok(Command::Grant {
-                guest: 1,
+    assert_eq!(rt;
+        command(5, &bytes),
+        Ok(Command::Grant {
+            guest: 1,
+            span: Span {
                 first: 0x05040302,
-                count: 0x09080706,
-                right: 10
-            })
-        )
+                count: 0x09080706
+            },
+            right: 10
+        })
     );
-    assert!(rt;
-        matches!(
-            command(16, &bytes[0..1]),
-            Ok(Command::Schedule { guest: 1 })
-        )
+    assert_eq!(rt; command(16, &bytes[0..1]), Ok(Command::Schedule(1)));
+    assert_eq!(rt; command(17, &bytes[0..4]), Ok(Command::Switch(0x04030201)));
+    assert_eq!(rt;
+        command(21, &bytes[0..4]),
+        Ok(Command::FlushPage(0x04030201))
     );
-    assert!(rt;
-        matches!(
-            command(17, &bytes[0..4]),
-            Ok(Command::Switch { base: 0x04030201 })
-        )
-    );
-    assert!(rt;
-        matches!(
-            command(21, &bytes[0..4]),
-            Ok(Command::FlushPage {
-                address: 0x04030201
-            })
-        )
-    );
-    assert!(rt;
-        matches!(
-            command(23, &bytes[0..4]),
-            Ok(Command::Load {
-                address: 0x04030201
-            })
-        )
-    );
-    assert!(rt;
-        matches!(
-            command(24, &bytes[0..8]),
-            Ok(Command::Store {
-                address: 0x04030201,
-                word: 0x08070605
-            })
-        )
+    assert_eq!(rt; command(23, &bytes[0..4]), Ok(Command::Load(0x04030201)));
+    assert_eq!(rt;
+        command(24, &bytes[0..8]),
+        Ok(Command::Store {
+            address: 0x04030201,
+            word: 0x08070605
+        })
     );
     Ok(())
 }
 
 #[test]
 fn access_zero_reads(rt: HostRuntime) -> Result<(), Fail> {
-    assert!(rt;
-        matches!(
-            command(22, &[1, 2, 3, 4, 0]),
-            Ok(Command::Fault {
-                address: 0x04030201,
-                access: Access::Read
-            })
-        )
+    assert_eq!(rt;
+        command(22, &[1, 2, 3, 4, 0]),
+        Ok(Command::Fault {
+            address: 0x04030201,
+            access: Access::Read
+        })
     );
-    assert!(rt;
-        matches!(
-            command(22, &[1, 2, 3, 4, 1]),
-            Ok(Command::Fault {
-                address: 0x04030201,
-                access: Access::Write
-            })
-        )
+    assert_eq!(rt;
+        command(22, &[1, 2, 3, 4, 1]),
+        Ok(Command::Fault {
+            address: 0x04030201,
+            access: Access::Write
+        })
     );
-    assert!(rt;
-        matches!(
-            command(22, &[1, 2, 3, 4, 255]),
-            Ok(Command::Fault {
-                address: 0x04030201,
-                access: Access::Write
-            })
-        )
+    assert_eq!(rt;
+        command(22, &[1, 2, 3, 4, 255]),
+        Ok(Command::Fault {
+            address: 0x04030201,
+            access: Access::Write
+        })
     );
     Ok(())
 }

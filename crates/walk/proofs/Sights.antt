@@ -37,4 +37,4 @@ same_sight m m' r r' w h =
     q
 
 pub same_walk : WalkReadsOnlyWhatIsReadable
-same_walk m m' r r' w h paging va x = ap (λ (s : Sight). walk_answer s paging va x) (same_sight m m' r r' w h)
+same_walk m m' r r' w h base va x = ap (λ (s : Sight). walk_answer s base va x) (same_sight m m' r r' w h)

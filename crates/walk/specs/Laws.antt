@@ -1,5 +1,5 @@
 -- What every walk keeps to.
-use Rattle.std.specs.Prelude.{◌≡◌, ℕ, ◌<◌, ◌≤◌, true, Ok, Err, Result}
+use Rattle.std.specs.Prelude.{◌≡◌, ℕ, ◌<◌, ◌≤◌, true, None, Ok, Err, Option, Result}
 use Rattle.platform.specs.declared.access.Access.{Access}
 use Rattle.platform.specs.declared.right.Right.{Right}
 use Rattle.platform.specs.Books.{Book}
@@ -8,7 +8,6 @@ use Rattle.platform.specs.Rights.{rank}
 use Rattle.platform.specs.Windows.{Pane}
 use Rattle.walk.specs.declared.abort.Abort.{Abort}
 use Rattle.walk.specs.declared.mapping.Mapping.{Mapping}
-use Rattle.walk.specs.declared.mapping.Paging.{Paging}
 use Rattle.walk.specs.Sights.{permits, sight}
 use Rattle.walk.specs.Walks.{walk_answer}
 
@@ -17,7 +16,7 @@ use Rattle.walk.specs.Walks.{walk_answer}
 pub record Allowed (m : Mem) (b : Book) (w : Pane) (g : ℕ) (x : Access) (t : Mapping) : Type 0 where
   pub in_window : t.page < w.count
   pub is_present : m.has t.page ≡ true
-  pub in_no_pool : b.pool t.page ≡ 0
+  pub in_no_pool : b.pool t.page ≡ None
   pub within_right : rank t.right ≤ rank (b.right g t.page)
   pub enough : permits t.right x ≡ true
 
@@ -36,4 +35,4 @@ pub record LookAlike (n : ℕ) (m m' : Mem) (r r' : ℕ → Right) : Type 0 wher
 abbrev pub WalkReadsOnlyWhatIsReadable : Type 0
 WalkReadsOnlyWhatIsReadable =
     (m m' : Mem) (r r' : ℕ → Right) (w : Pane) → LookAlike w.count m m' r r'
-    → (paging : Paging) (va : ℕ) (x : Access) → walk_answer (sight m r w) paging va x ≡ walk_answer (sight m' r' w) paging va x
+    → (base : Option ℕ) (va : ℕ) (x : Access) → walk_answer (sight m r w) base va x ≡ walk_answer (sight m' r' w) base va x

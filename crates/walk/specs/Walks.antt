@@ -1,5 +1,6 @@
 -- The walk over what a guest sees.
 use Rattle.std.specs.Prelude.{ℕ, ◌/◌, cond, Some, None, Ok, Err, Option, Result, nat_le, nat_lt}
+use Rattle.std.specs.Option.{ok_or}
 use Rattle.platform.specs.declared.access.Access.{Access}
 use Rattle.platform.specs.declared.right.Right.{Right}
 use Rattle.platform.specs.Rights.{rank}
@@ -11,19 +12,12 @@ use Rattle.walk.specs.declared.abort.Abort.{Abort}
 use Rattle.walk.specs.declared.abort.Abort.TheVariants.{SectionTranslation, PageTranslation, External, FirstLevelWalk, SectionPermission, SecondLevelWalk, PagePermission}
 use Rattle.walk.specs.declared.mapping.Ask.{Ask}
 use Rattle.walk.specs.declared.mapping.Mapping.{Mapping}
-use Rattle.walk.specs.declared.mapping.Paging.{Paging}
-use Rattle.walk.specs.declared.mapping.Paging.TheVariants.{Off, On}
 use Rattle.walk.specs.Sights.{Sight, permits}
 
 -- the next step, unless the walk has aborted
 abbrev pub next : {A B : Type 0} → Result A Abort → (A → Result B Abort) → Result B Abort
 next (Ok x) f = f x
 next (Err e) f = Err e
-
--- a word that can be read, or the abort
-abbrev pub word_or : Option ℕ → Abort → Result ℕ Abort
-word_or None e = Err e
-word_or (Some w) e = Ok w
 
 abbrev pub ask : ℕ → Right → Abort → Ask
 ask page right denied = record { page = page; right = right; denied = denied }
@@ -39,7 +33,7 @@ abbrev pub ask_entry : Sight → ℕ → FirstLevel → Result Ask Abort
 ask_entry s va FirstLevel.Invalid = Err SectionTranslation
 ask_entry s va FirstLevel.Supersection = Err SectionTranslation
 ask_entry s va (FirstLevel.Section page right) = Ok (ask page right SectionPermission)
-ask_entry s va (FirstLevel.Table page place) = next (word_or (s.seen page place) SecondLevelWalk) (λ word. ask_second (second_level word va))
+ask_entry s va (FirstLevel.Table page place) = next (ok_or (s.seen page place) SecondLevelWalk) (λ word. ask_second (second_level word va))
 
 abbrev pub ask_first : Sight → ℕ → ℕ → Result Ask Abort
 ask_first s word va = ask_entry s va (first_level word va)
@@ -48,16 +42,17 @@ ask_first s word va = ask_entry s va (first_level word va)
 abbrev pub ask_on : Sight → ℕ → ℕ → Result Ask Abort
 ask_on s base va =
     cond (nat_lt va 0x40000000)
-    (next (word_or (s.seen base (first_index va)) FirstLevelWalk) (λ word. ask_first s word va))
+    (next (ok_or (s.seen base (first_index va)) FirstLevelWalk) (λ word. ask_first s word va))
     (Err SectionTranslation)
 
 -- paging off: the address's own page, with the right that the guest has there
 abbrev pub ask_off : Sight → ℕ → Result Ask Abort
 ask_off s va = cond (nat_lt va 0x40000000) (Ok (ask (va / 4096) (s.may (va / 4096)) External)) (Err External)
 
-abbrev pub asked : Sight → Paging → ℕ → Result Ask Abort
-asked s Off va = ask_off s va
-asked s (On base) va = ask_on s base va
+-- by the guest page of the first-level table, and by none while paging is off
+abbrev pub asked : Sight → Option ℕ → ℕ → Result Ask Abort
+asked s None va = ask_off s va
+asked s (Some base) va = ask_on s base va
 
 -- a page that is there, with the right asked for if the guest's own is no less
 abbrev pub landed : Option ℕ → Right → Right → Result Mapping Abort
@@ -71,5 +66,5 @@ reached s page right = landed (s.lies page) (s.may page) right
 abbrev pub granted : Sight → Access → Ask → Result Mapping Abort
 granted s x q = cond (permits q.right x) (reached s q.page q.right) (Err q.denied)
 
-abbrev pub walk_answer : Sight → Paging → ℕ → Access → Result Mapping Abort
-walk_answer s paging va x = next (asked s paging va) (granted s x)
+abbrev pub walk_answer : Sight → Option ℕ → ℕ → Access → Result Mapping Abort
+walk_answer s base va x = next (asked s base va) (granted s x)

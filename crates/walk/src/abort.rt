@@ -3,7 +3,7 @@ ghost use Rattle.std.specs.Prelude.{◌≡◌};
 ghost use Rattle.walk.specs.Aborts.{code};
 
 // The fault that the guest takes. Each case has a fault status code.
-#[derive(Clone, Copy)]
+#[derive(Clone, Copy, Debug, PartialEq, Eq)]
 pub enum Abort {
     // Translation fault, first level.
     SectionTranslation,
@@ -21,12 +21,12 @@ pub enum Abort {
     PagePermission,
 }
 
-impl Abort {
-    // The fault status code.
-    pub fn code(self) -> u8
-        ensures answer { result ≡ code self }
-    {
-        match self {
+// The fault status code.
+impl From<Abort> for u8 {
+    ghost from_gives = { λ abort n. n ≡ code abort };
+
+    fn from(abort: Abort) -> u8 {
+        match abort {
             Abort::SectionTranslation => 0x05,
             Abort::PageTranslation => 0x07,
             Abort::External => 0x08,

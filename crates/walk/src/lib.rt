@@ -4,5 +4,4 @@
 pub mod abort;
 pub mod laws;
 pub mod mapping;
-pub mod translate;
-mod view;
+pub mod view;

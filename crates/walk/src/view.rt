@@ -1,11 +1,14 @@
 // A guest's view of memory, and the steps of the walk on it.
 ghost use Rattle.std.specs.Prelude.{◌≡◌};
+ghost use Rattle.std.specs.Option.{ok_or};
+ghost use Rattle.platform.specs.Windows.{pane};
 ghost use Rattle.walk.specs.Sights.{permits};
 ghost use Rattle.walk.specs.Views.{seen_by};
-ghost use Rattle.walk.specs.Walks.{word_or, ask_first, ask_on, ask_off, reached, walk_answer};
+ghost use Rattle.walk.specs.Walks.{ask_first, ask_on, ask_off, reached, granted, walk_answer};
+ghost use Rattle.walk.specs.Laws.{MappingIsAllowed};
 
 use crate::abort::Abort;
-use crate::mapping::{Ask, Mapping, Paging};
+use crate::mapping::{Ask, Mapping};
 use descriptor::address::first_index;
 use descriptor::entry::{FirstLevel, SecondLevel, first_level, second_level};
 use platform::access::Access;
@@ -24,8 +27,8 @@ fn permits(right: Right, access: Access) -> bool
     ensures answer { result ≡ permits right access }
 {
     match access {
-        Access::Read => right.rank() >= Right::Read.rank(),
-        Access::Write => right.rank() >= Right::Write.rank(),
+        Access::Read => right >= Right::Read,
+        Access::Write => right >= Right::Write,
     }
 }
 
@@ -43,26 +46,21 @@ impl<'m, 'b, M: Memory, B: RightsBook> View<'m, 'b, M, B> {
     fn right_on(&self, page: Page) -> Right
         ensures answer { result ≡ (seen_by M.contents B.rules self.now).may page }
     {
-        match self.window.physical(page) {
-            None => Right::Nothing,
-            Some(at) => self.book.right(self.guest, at),
-        }
+        let Some(at) = self.window.physical(page) else {
+            return Right::Nothing;
+        };
+        self.book.right(self.guest, at)
     }
 
     // A table word on a guest page, which is read only if the guest may read it; else the abort.
     fn table_word(&self, page: Page, place: Place, abort: Abort) -> Result<Word, Abort>
-        ensures answer { result ≡ word_or ((seen_by M.contents B.rules self.now).seen page place) abort }
+        ensures answer { result ≡ ok_or ((seen_by M.contents B.rules self.now).seen page place) abort }
     {
-        let Some(at) = self.window.physical(page) else {
-            return Err(abort);
-        };
+        let at = self.window.physical(page).ok_or(abort)?;
         if !permits(self.book.right(self.guest, at), Access::Read) {
             return Err(abort);
         }
-        match self.memory.read(at, place) {
-            Ok(word) => Ok(word),
-            Err(_) => Err(abort),
-        }
+        self.memory.read(at, place).map_err(|_| abort)
     }
 
     // What a first-level word asks for, with the second-level word that it names.
@@ -121,26 +119,39 @@ impl<'m, 'b, M: Memory, B: RightsBook> View<'m, 'b, M, B> {
     fn reach(&self, page: Page, right: Right) -> Result<Mapping, Abort>
         ensures answer { result ≡ reached (seen_by M.contents B.rules self.now) page right }
     {
-        let Some(at) = self.window.physical(page) else {
-            return Err(Abort::External);
-        };
-        if !self.memory.has(at) || self.book.right(self.guest, at).rank() < right.rank() {
+        let at = self.window.physical(page).ok_or(Abort::External)?;
+        if !self.memory.has(at) || self.book.right(self.guest, at) < right {
             return Err(Abort::External);
         }
         Ok(Mapping { page: at, right })
     }
 
-    // The whole walk.
-    pub fn walk(&self, paging: Paging, va: Address, access: Access) -> Result<Mapping, Abort>
-        ensures answer { result ≡ walk_answer (seen_by M.contents B.rules self.now) paging va access }
+    // The mapping asked for, if its right is enough for the access and the guest may have it.
+    fn grant(&self, ask: Ask, access: Access) -> Result<Mapping, Abort>
+        ensures answer { result ≡ granted (seen_by M.contents B.rules self.now) access ask }
     {
-        let ask = match paging {
-            Paging::Off => self.ask_off(va)?,
-            Paging::On(base) => self.ask_on(base, va)?,
-        };
         if !permits(ask.right, access) {
             return Err(ask.denied);
         }
         self.reach(ask.page, ask.right)
+    }
+
+    // What an address leads to: a mapping, or the abort that the guest takes. `base` is the guest page of the guest's
+    // first-level table, and none while its paging is off. Memory and book are only asked: with paging on, one word
+    // is read for a section and two for a page.
+    pub fn translate(
+        &self,
+        base: Option<Page>,
+        va: Address,
+        access: Access,
+    ) -> Result<Mapping, Abort>
+        ensures answer { result ≡ walk_answer (seen_by M.contents B.rules self.now) base va access }
+        ensures law { MappingIsAllowed (M.contents self.now.memory.now) (B.rules self.now.book.now) (pane self.now.window) self.now.guest access result }
+    {
+        let ask = match base {
+            None => self.ask_off(va)?,
+            Some(page) => self.ask_on(page, va)?,
+        };
+        self.grant(ask, access)
     }
 }

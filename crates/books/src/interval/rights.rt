@@ -1,7 +1,7 @@
 // What the interval book answers.
 ghost use Rattle.books.specs.Intervals.{book_of, gives, pool_covers};
 ghost use Rattle.books.specs.Ledgers.{ledger};
-ghost use Rattle.std.specs.Prelude.{◌≡◌};
+ghost use Rattle.std.specs.Prelude.{◌≡◌, ◌<◌, IfSome, position};
 ghost use Rattle.books.specs.Tidy;
 ghost use Rattle.books.specs.Tidy.{one_writer};
 
@@ -27,9 +27,16 @@ fn given(grant: &Grant, guest: Guest, page: Page) -> Right
 fn holds(pool: Option<Span>, page: Page) -> bool
     ensures answer { result ≡ pool_covers pool page }
 {
-    match pool {
-        None => false,
-        Some(pages) => pages.covers(page),
+    pool.is_some_and(|pages| pages.covers(page))
+}
+
+impl IntervalBook {
+    // Where the pool that a page is in stands, if any.
+    fn pool_place(&self, page: Page) -> Option<usize>
+        ensures answer { result ≡ position (λ o. pool_covers o page) self.now.pools }
+        ensures within { IfSome result (λ i. i < 8) }
+    {
+        self.pools.iter().position(|pool| holds(*pool, page))
     }
 }
 
@@ -44,20 +51,17 @@ impl RightsBook for IntervalBook {
 
     ghost strangers = { λ b g p o. Tidy.strangers b.grants.items b.pools g p b.neat o };
 
+    #[tactic(auto, using(crate::proofs::Grants::granted_more))]
     fn right(&self, guest: Guest, page: Page) -> Right {
         let mut best = Right::Nothing;
-        for i in 0..self.grants.len() {
-            best = best.greater(given(&self.grants[i], guest, page));
+        for grant in &self.grants {
+            best = best.max(given(grant, guest, page));
         }
         best
     }
 
-    fn pool(&self, page: Page) -> Guest {
-        for i in 0..self.pools.len() {
-            if holds(self.pools[i], page) {
-                return i as Guest + 1;
-            }
-        }
-        0
+    fn pool(&self, page: Page) -> Option<Guest> {
+        let i = self.pool_place(page)?;
+        Some(i as Guest + 1)
     }
 }

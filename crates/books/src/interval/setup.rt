@@ -5,7 +5,7 @@ ghost use Rattle.books.specs.Ledgers.{ledger};
 
 use super::{IntervalBook, ROOM};
 use crate::grant::Grant;
-use platform::guest::is_guest;
+use platform::guest::place_of;
 use platform::refusal::Refusal;
 use platform::right::Right;
 use platform::span::Span;
@@ -23,18 +23,15 @@ fn clash(x: &Grant, y: &Grant) -> bool
 {
     x.guest != y.guest
         && x.span.overlaps(y.span)
-        && matches!(x.right, Right::Write)
-        && matches!(y.right, Right::Write)
+        && x.right == Right::Write
+        && y.right == Right::Write
 }
 
 // Whether a pool, if any, lies over a span.
 fn lies_over(pool: Option<Span>, span: Span) -> bool
     ensures answer { result ≡ pool_overlaps pool span }
 {
-    match pool {
-        None => false,
-        Some(pages) => pages.overlaps(span),
-    }
+    pool.is_some_and(|pages| pages.overlaps(span))
 }
 
 impl IntervalBook {
@@ -53,54 +50,38 @@ impl IntervalBook {
     fn writes_meet(&self, new: &Grant) -> bool
         ensures answer { result ≡ any_clash self.now.grants.items new.now }
     {
-        for i in 0..self.grants.len() {
-            if clash(&self.grants[i], new) {
-                return true;
-            }
-        }
-        false
+        self.grants.iter().any(|grant| clash(grant, new))
     }
 
     // Whether some grant lies over a span.
     fn is_granted(&self, span: Span) -> bool
         ensures answer { result ≡ over_grant self.now.grants.items span }
     {
-        for i in 0..self.grants.len() {
-            if self.grants[i].span.overlaps(span) {
-                return true;
-            }
-        }
-        false
+        self.grants.iter().any(|grant| grant.span.overlaps(span))
     }
 
     // Whether some pool lies over a span.
     fn is_pooled(&self, span: Span) -> bool
         ensures answer { result ≡ over_pool self.now.pools span }
     {
-        for i in 0..self.pools.len() {
-            if lies_over(self.pools[i], span) {
-                return true;
-            }
-        }
-        false
+        self.pools.iter().any(|pool| lies_over(*pool, span))
     }
 
     // Whether a guest has a pool.
     pub fn has_pool(&self, guest: Guest) -> bool
         ensures answer { result ≡ has_pool (ledger self.now).pools guest }
     {
-        is_guest(guest) && self.pools[guest as usize - 1].is_some()
+        place_of(guest).is_ok_and(|i| self.pools[i].is_some())
     }
 
     // Adds a grant.
+    #[tactic(auto, using(crate::specs::Tidy::tidy_grant))]
     pub fn grant(&mut self, new: Grant) -> Result<(), Refusal>
         ensures answer { result ≡ grant_answer (ledger self.old) new }
         ensures after { ledger self.new ≡ grant_after (ledger self.old) new }
     {
-        if !is_guest(new.guest) {
-            return Err(Refusal::GuestOutOfRange);
-        }
-        if !new.span.fits_book() || matches!(new.right, Right::Nothing) {
+        place_of(new.guest)?;
+        if !new.span.fits_book() || new.right == Right::Nothing {
             return Err(Refusal::OutOfLimits);
         }
         if self.grants.len() >= ROOM {
@@ -114,13 +95,12 @@ impl IntervalBook {
     }
 
     // Gives a guest its pool.
+    #[tactic(auto, using(crate::specs::Tidy::tidy_pool))]
     pub fn set_pool(&mut self, guest: Guest, span: Span) -> Result<(), Refusal>
         ensures answer { result ≡ pool_answer (ledger self.old) guest span }
         ensures after { ledger self.new ≡ pool_after (ledger self.old) guest span }
     {
-        if !is_guest(guest) {
-            return Err(Refusal::GuestOutOfRange);
-        }
+        let i = place_of(guest)?;
         if !span.fits_book() || span.count < POOL_LEAST || span.count > POOL_MOST {
             return Err(Refusal::OutOfLimits);
         }
@@ -130,7 +110,7 @@ impl IntervalBook {
         if self.is_granted(span) || self.is_pooled(span) {
             return Err(Refusal::Conflict);
         }
-        self.pools[guest as usize - 1] = Some(span);
+        self.pools[i] = Some(span);
         Ok(())
     }
 }

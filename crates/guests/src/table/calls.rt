@@ -4,7 +4,7 @@ ghost use Rattle.guests.specs.Rosters.{roster, running_place, schedule_answer, s
 
 use super::Guests;
 use platform::address::page_of;
-use platform::guest::is_guest;
+use platform::guest::place_of;
 use platform::refusal::Refusal;
 use platform::units::{Address, Guest};
 
@@ -14,10 +14,8 @@ impl Guests {
         ensures answer { result ≡ running_place self.now.running }
         ensures within { IfOk result (λ i. i < 8) }
     {
-        match self.running {
-            None => Err(Refusal::NoGuestRuns),
-            Some(guest) => Ok(guest as usize - 1),
-        }
+        let guest = self.running.ok_or(Refusal::NoGuestRuns)?;
+        place_of(guest)
     }
 
     // Names the guest that runs from here on.
@@ -25,10 +23,8 @@ impl Guests {
         ensures answer { result ≡ schedule_answer (roster self.old) guest }
         ensures after { roster self.new ≡ schedule_after (roster self.old) guest }
     {
-        if !is_guest(guest) {
-            return Err(Refusal::GuestOutOfRange);
-        }
-        if !self.records[guest as usize - 1].admitted {
+        let i = place_of(guest)?;
+        if !self.records[i].admitted {
             return Err(Refusal::NotAdmitted);
         }
         self.running = Some(guest);

@@ -1,13 +1,12 @@
 // Making the table, and admitting guests.
-ghost use Rattle.std.specs.Prelude.{◌≡◌, IfOk};
+ghost use Rattle.std.specs.Prelude.{◌≡◌};
 ghost use Rattle.guests.specs.Rosters.{roster, fresh, admit_answer, admit_after};
 
 use super::Guests;
 use crate::record::GuestRecord;
-use platform::guest::is_guest;
+use platform::guest::place_of;
 use platform::refusal::Refusal;
 use platform::units::Guest;
-use std::alloc::{AllocError, Global};
 
 // A guest that is not admitted, with paging off and base 0.
 const BLANK: GuestRecord = GuestRecord {
@@ -20,14 +19,14 @@ const BLANK: GuestRecord = GuestRecord {
 
 impl Guests {
     // No guest is admitted, and none runs.
-    pub fn new(heap: Global) -> Result<Self, AllocError>
-        ensures answer { IfOk result (λ t. roster t ≡ fresh) }
+    #[tactic(auto, using(crate::proofs::Rosters::blank_records))]
+    pub fn new() -> Self
+        ensures answer { roster result ≡ fresh }
     {
-        let records = Vec::from_slice(heap, &[BLANK; 8])?;
-        Ok(Guests {
-            records,
+        Guests {
+            records: [BLANK; 8],
             running: None,
-        })
+        }
     }
 
     // Admits a guest.
@@ -35,10 +34,8 @@ impl Guests {
         ensures answer { result ≡ admit_answer (roster self.old) guest }
         ensures after { roster self.new ≡ admit_after (roster self.old) guest }
     {
-        if !is_guest(guest) {
-            return Err(Refusal::GuestOutOfRange);
-        }
-        let record = &mut self.records[guest as usize - 1];
+        let i = place_of(guest)?;
+        let record = &mut self.records[i];
         if record.admitted {
             return Err(Refusal::AlreadySetUp);
         }

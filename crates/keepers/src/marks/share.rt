@@ -1,62 +1,57 @@
 // One guest's marks.
-ghost use Rattle.std.specs.Prelude.{◌≡◌, false, is_ok, IfOk, if◌then◌else◌};
-ghost use Rattle.platform.specs.Lists.{count, member};
+ghost use Rattle.std.specs.Prelude.{refl};
+ghost use Rattle.keepers.specs.Meanings.{ring_adds, ring_frees};
 ghost use Rattle.keepers.specs.Rings.{ring_of};
-ghost use Rattle.keepers.specs.Rows.{pages_of, no_ring, ring_share, ring_with, ring_freed, round_answer, round_after};
-ghost use Rattle.keepers.specs.Shares.{share_enrol_answer, share_give_answer};
+ghost use Rattle.keepers.specs.Rows.{Ring, no_ring, ring_share, ring_with, ring_freed, round_answer, round_after};
 
 use super::PageMarks;
 use crate::ROOM;
 use crate::mark::Mark;
-use crate::search::PageHolder;
+use crate::share::PageShare;
 use platform::refusal::Refusal;
 use platform::units::Page;
 use std::alloc::{AllocError, Global};
 
-impl PageHolder for PageMarks {
-    ghost held = { λ s. pages_of s.marks.items };
+// A take gives the page of the next free mark, going round.
+impl PageShare for PageMarks {
+    ghost Order = { Ring };
 
-    fn holds(&self, page: Page) -> bool {
-        self.find(page).is_some()
-    }
-}
+    ghost order = { ring_of };
 
-impl PageMarks {
-    // No page yet, and room for all.
-    pub(super) fn new(heap: Global) -> Result<Self, AllocError>
-        ensures answer { IfOk result (λ s. ring_of s ≡ no_ring) }
-    {
+    ghost none = { no_ring };
+
+    ghost share = { ring_share };
+
+    ghost added = { ring_with };
+
+    ghost freed = { ring_freed };
+
+    ghost chosen = { round_answer };
+
+    ghost left = { round_after };
+
+    fn new(heap: Global) -> Result<Self, AllocError> {
         let marks = Vec::with_capacity(heap, ROOM)?;
         Ok(PageMarks { marks, next: 0 })
     }
 
-    // Forgets every page.
-    pub(super) fn clear(&mut self)
-        ensures after { ring_of self.new ≡ no_ring }
-    {
+    fn clear(&mut self) {
         self.next = 0;
         self.marks.clear();
     }
 
-    // How many pages are free.
-    pub(super) fn free_count(&self) -> u32
-        ensures answer { result ≡ count (ring_share (ring_of self.now)).free (ring_share (ring_of self.now)).pages }
-    {
-        let mut free = 0;
-        for i in 0..self.marks.len() {
-            if self.marks[i].free {
-                free += 1;
-            }
-        }
-        free
+    #[tactic(auto, using(crate::proofs::Rows::found_within))]
+    fn holds(&self, page: Page) -> bool {
+        self.find(page).is_some()
     }
 
-    // One page more, free, that is not there yet.
-    pub(super) fn add(&mut self, page: Page) -> Result<(), Refusal>
-        requires { member page (pages_of self.old.marks.items) ≡ false }
-        ensures answer { result ≡ share_enrol_answer (ring_share (ring_of self.old)) }
-        ensures after { ring_of self.new ≡ (if is_ok result then ring_with (ring_of self.old) page else ring_of self.old) }
-    {
+    #[tactic(auto, using(crate::proofs::Rows::free_counted))]
+    fn free_count(&self) -> u32 {
+        self.marks.iter().filter(|mark| mark.free).count() as u32
+    }
+
+    #[tactic(auto, using(crate::proofs::Rows::pages_length, crate::proofs::Rows::neat_push))]
+    fn add(&mut self, page: Page) -> Result<(), Refusal> {
         if self.marks.len() >= ROOM {
             return Err(Refusal::KeeperRefuses);
         }
@@ -64,34 +59,30 @@ impl PageMarks {
         Ok(())
     }
 
-    // Gives the page of the next free mark, going round.
-    pub(super) fn take(&mut self) -> Result<Page, Refusal>
-        ensures answer { result ≡ round_answer (ring_of self.old) }
-        ensures after { ring_of self.new ≡ round_after (ring_of self.old) }
-    {
-        match self.round_place() {
-            None => Err(Refusal::KeeperRefuses),
-            Some(i) => {
-                let page = self.marks[i].page;
-                self.marks[i].free = false;
-                self.next = i + 1;
-                Ok(page)
-            }
-        }
+    #[tactic(auto, using(crate::proofs::Rows::neat_set, crate::proofs::Rows::set_is, crate::proofs::Rows::page_read, crate::proofs::Rings::taken_had, crate::proofs::Rings::taken_free, crate::proofs::Rings::taken_left, crate::proofs::Rings::ring_untaken))]
+    fn take(&mut self) -> Result<Page, Refusal> {
+        let place = self.round_place().ok_or(Refusal::KeeperRefuses)?;
+        self.next = place + 1;
+        let mark = &mut self.marks[place];
+        mark.free = false;
+        Ok(mark.page)
     }
 
-    // Frees a page.
-    pub(super) fn give(&mut self, page: Page) -> Result<(), Refusal>
-        ensures answer { result ≡ share_give_answer (ring_share (ring_of self.old)) page }
-        ensures after { ring_of self.new ≡ (if is_ok result then ring_freed (ring_of self.old) page else ring_of self.old) }
-    {
-        let Some(i) = self.find(page) else {
-            return Err(Refusal::KeeperRefuses);
-        };
-        if self.marks[i].free {
+    #[tactic(auto, using(crate::proofs::Rows::found_within, crate::proofs::Rows::neat_set, crate::proofs::Rows::set_is, crate::proofs::Rows::free_is))]
+    fn give(&mut self, page: Page) -> Result<(), Refusal> {
+        let place = self.find(page).ok_or(Refusal::KeeperRefuses)?;
+        if self.marks[place].free {
             return Err(Refusal::KeeperRefuses);
         }
-        self.marks[i].free = true;
+        self.marks[place].free = true;
         Ok(())
     }
+
+    ghost without = { refl };
+
+    ghost adds = { ring_adds };
+
+    ghost frees = { ring_frees };
+
+    ghost leaves = { refl };
 }

@@ -1,57 +1,55 @@
 // One guest's stack.
-ghost use Rattle.std.specs.Prelude.{◌≡◌, false, [], ◌∷◌, ◌++◌, is_ok, IfOk, if◌then◌else◌};
-ghost use Rattle.platform.specs.Lists.{count, member};
-ghost use Rattle.keepers.specs.Shares.{no_share, share_enrol_answer, share_enrol_after, share_give_answer, share_give_after, ShareTaken};
-ghost use Rattle.keepers.specs.Stacks.{stack_share, newest_last, TopOff};
+ghost use Rattle.std.specs.Prelude.{refl};
+ghost use Rattle.keepers.specs.Meanings.{pile_adds, pile_frees};
+ghost use Rattle.keepers.specs.Stacks.{Pile, no_pile, pile_of, pile_share, pile_with, pile_freed, pile_answer, pile_after};
 
 use super::PageStack;
 use crate::ROOM;
-use crate::search::{PageHolder, stands};
+use crate::share::PageShare;
 use platform::refusal::Refusal;
 use platform::units::Page;
 use std::alloc::{AllocError, Global};
 
-impl PageHolder for PageStack {
-    ghost held = { λ s. s.pages.items };
+// A page that is enrolled or given goes on top, and a take gives the page on top.
+impl PageShare for PageStack {
+    ghost Order = { Pile };
 
-    fn holds(&self, page: Page) -> bool {
-        stands(&self.pages, page)
-    }
-}
+    ghost order = { pile_of };
 
-impl PageStack {
-    // No page yet, and room for all.
-    pub(super) fn new(heap: Global) -> Result<Self, AllocError>
-        ensures answer { IfOk result (λ s. (stack_share s ≡ no_share) × (newest_last s ≡ [])) }
-    {
+    ghost none = { no_pile };
+
+    ghost share = { pile_share };
+
+    ghost added = { pile_with };
+
+    ghost freed = { pile_freed };
+
+    ghost chosen = { pile_answer };
+
+    ghost left = { pile_after };
+
+    fn new(heap: Global) -> Result<Self, AllocError> {
         let pages = Vec::with_capacity(heap, ROOM)?;
         let free = Vec::with_capacity(heap, ROOM)?;
         Ok(PageStack { pages, free })
     }
 
-    // Forgets every page.
-    pub(super) fn clear(&mut self)
-        ensures after { stack_share self.new ≡ no_share }
-        ensures stack { newest_last self.new ≡ [] }
-    {
+    fn clear(&mut self) {
         self.free.clear();
         self.pages.clear();
     }
 
-    // How many pages are free.
-    pub(super) fn free_count(&self) -> u32
-        ensures answer { result ≡ count (stack_share self.now).free (stack_share self.now).pages }
-    {
+    fn holds(&self, page: Page) -> bool {
+        self.pages.contains(&page)
+    }
+
+    #[tactic(auto, using(crate::proofs::Sets::stacked_most, crate::proofs::Stacks::pile_counted))]
+    fn free_count(&self) -> u32 {
         self.free.len() as u32
     }
 
-    // One page more, free, that is not there yet.
-    pub(super) fn add(&mut self, page: Page) -> Result<(), Refusal>
-        requires { member page self.old.pages.items ≡ false }
-        ensures answer { result ≡ share_enrol_answer (stack_share self.old) }
-        ensures after { stack_share self.new ≡ share_enrol_after (stack_share self.old) page }
-        ensures stack { newest_last self.new ≡ (if is_ok result then newest_last self.old ++ page ∷ [] else newest_last self.old) }
-    {
+    #[tactic(auto, using(crate::proofs::Sets::stacked_most, crate::proofs::Sets::stacked_add))]
+    fn add(&mut self, page: Page) -> Result<(), Refusal> {
         if self.pages.len() >= ROOM {
             return Err(Refusal::KeeperRefuses);
         }
@@ -60,27 +58,25 @@ impl PageStack {
         Ok(())
     }
 
-    // Gives the page on top.
-    pub(super) fn take(&mut self) -> Result<Page, Refusal>
-        ensures taken { ShareTaken (stack_share self.old) result (stack_share self.new) }
-        ensures stack { TopOff (newest_last self.old) result (newest_last self.new) }
-    {
-        match self.free.pop() {
-            None => Err(Refusal::KeeperRefuses),
-            Some(page) => Ok(page),
-        }
+    #[tactic(auto, using(crate::proofs::Sets::stacked_pop, crate::proofs::Stacks::pile_took))]
+    fn take(&mut self) -> Result<Page, Refusal> {
+        self.free.pop().ok_or(Refusal::KeeperRefuses)
     }
 
-    // Frees a page.
-    pub(super) fn give(&mut self, page: Page) -> Result<(), Refusal>
-        ensures answer { result ≡ share_give_answer (stack_share self.old) page }
-        ensures after { stack_share self.new ≡ share_give_after (stack_share self.old) page }
-        ensures stack { newest_last self.new ≡ (if is_ok result then newest_last self.old ++ page ∷ [] else newest_last self.old) }
-    {
-        if !self.holds(page) || stands(&self.free, page) {
+    #[tactic(auto, using(crate::proofs::Sets::stacked_give, crate::proofs::Sets::stacked_room))]
+    fn give(&mut self, page: Page) -> Result<(), Refusal> {
+        if !self.holds(page) || self.free.contains(&page) {
             return Err(Refusal::KeeperRefuses);
         }
         self.free.push_reserved(page);
         Ok(())
     }
+
+    ghost without = { refl };
+
+    ghost adds = { pile_adds };
+
+    ghost frees = { pile_frees };
+
+    ghost leaves = { refl };
 }

@@ -10,6 +10,7 @@ use platform::units::{PAGE_WORDS, Page, Place, Word};
 
 impl ListedPages {
     // Puts a word at a place of a listed page.
+    #[tactic(auto, using(crate::proofs::Tables::tables))]
     pub fn put(&mut self, page: Page, place: Place, word: Word) -> Result<(), Refusal>
         ensures answer { result ≡ write_answer (catalog self.old).mem page place }
         ensures after { catalog self.new ≡ catalog_written (catalog self.old) page place word }
@@ -17,31 +18,27 @@ impl ListedPages {
         if place >= PAGE_WORDS {
             return Err(Refusal::NoSuchWord);
         }
-        match self.find(page) {
-            None => Err(Refusal::NoSuchWord),
-            Some(i) => {
-                self.pages[i].words[place as usize] = word;
-                Ok(())
-            }
-        }
+        let i = self.find(page).ok_or(Refusal::NoSuchWord)?;
+        self.pages[i].words[place as usize] = word;
+        Ok(())
     }
 }
 
 impl Memory for ListedPages {
     ghost contents = { λ s. (catalog s).mem };
 
+    #[tactic(auto, using(crate::proofs::Tables::lists_found))]
     fn has(&self, page: Page) -> bool {
         self.find(page).is_some()
     }
 
+    #[tactic(auto, using(crate::proofs::Tables::tables))]
     fn read(&self, page: Page, place: Place) -> Result<Word, Refusal> {
         if place >= PAGE_WORDS {
             return Err(Refusal::NoSuchWord);
         }
-        match self.find(page) {
-            None => Err(Refusal::NoSuchWord),
-            Some(i) => Ok(self.pages[i].words[place as usize]),
-        }
+        let i = self.find(page).ok_or(Refusal::NoSuchWord)?;
+        Ok(self.pages[i].words[place as usize])
     }
 
     fn write(&mut self, page: Page, place: Place, word: Word) -> Result<(), Refusal> {

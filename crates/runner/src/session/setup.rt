@@ -1,6 +1,5 @@
 // Setting up.
 ghost use Rattle.std.specs.Prelude.{◌≡◌, IfOk};
-ghost use Rattle.platform.specs.declared.span.Span.{Span};
 ghost use Rattle.runner.specs.States.{state, opening, window_set};
 ghost use Rattle.platform.specs.Windows.{window_answer};
 ghost use Rattle.runner.specs.Setups.{unit_answer};
@@ -10,7 +9,7 @@ use books::interval::IntervalBook;
 use guests::table::Guests;
 use memories::listed::ListedPages;
 use platform::refusal::Refusal;
-use platform::units::Page;
+use platform::span::Span;
 use platform::window::Window;
 use std::alloc::{AllocError, Global};
 
@@ -21,22 +20,21 @@ impl Session {
     {
         let memory = ListedPages::new(heap)?;
         let book = IntervalBook::new(heap)?;
-        let guests = Guests::new(heap)?;
         Ok(Session {
             window: None,
             memory,
             book,
-            guests,
+            guests: Guests::new(),
             started: false,
         })
     }
 
     // Takes a window in place of the one before, if any.
-    pub(super) fn set_window(&mut self, first: Page, count: u32) -> Result<(), Refusal>
-        ensures answer { result ≡ unit_answer (window_answer first count) }
-        ensures after { state self.new ≡ window_set (state self.old) (window_answer first count) }
+    pub(super) fn set_window(&mut self, pages: Span) -> Result<(), Refusal>
+        ensures answer { result ≡ unit_answer (window_answer pages.first pages.count) }
+        ensures after { state self.new ≡ window_set (state self.old) (window_answer pages.first pages.count) }
     {
-        self.window = Some(Window::new(first, count)?);
+        self.window = Some(Window::new(pages)?);
         Ok(())
     }
 }

@@ -24,8 +24,8 @@ impl Session {
     fn is_any_short(&self, count: u32) -> bool
         ensures answer { result ≡ any_short (state self.now) count 8 }
     {
-        for i in 0..GUESTS {
-            if self.is_short(count, i + 1) {
+        for guest in 1..=GUESTS {
+            if self.is_short(count, guest) {
                 return true;
             }
         }
@@ -45,8 +45,8 @@ impl Session {
     fn admit_all(&mut self)
         ensures after { state self.new ≡ admit_all (state self.old) 8 }
     {
-        for i in 0..GUESTS {
-            self.admit_pooled(i + 1);
+        for guest in 1..=GUESTS {
+            self.admit_pooled(guest);
         }
     }
 
@@ -55,9 +55,7 @@ impl Session {
         ensures answer { result ≡ start_answer (state self.old) }
         ensures after { state self.new ≡ start_after (state self.old) }
     {
-        let Some(window) = self.window else {
-            return Err(Refusal::BadWindow);
-        };
+        let window = self.window.ok_or(Refusal::BadWindow)?;
         if self.is_any_short(window.count()) {
             return Err(Refusal::TooFewPages);
         }

@@ -1,23 +1,19 @@
 // The machine that walks are tried on: flat words and the byte book behind a window.
-use super::super::numbers::{OK, refusal_number};
+use super::super::numbers::{OK, numbered};
 use books::bytes::ByteBook;
 use memories::flat::FlatWords;
 use platform::access::Access;
 use platform::memory::Memory;
+use platform::span::Span;
 use platform::units::{Address, Guest, PAGE_WORDS, Page, Place, Word};
 use platform::window::Window;
 use std::alloc::Global;
 use std::process::Abort;
 use std::test::*;
-use walk::mapping::Paging;
-use walk::translate::translate;
+use walk::view::View;
 
-// How a walk ends: on a physical page with a right's rank, or with a fault status code.
-#[derive(Clone, Copy, PartialEq, Debug)]
-pub enum End {
-    Maps(u32, u8),
-    Aborts(u8),
-}
+// How a walk ends: on a physical page with a right's number, or with a fault status code.
+pub type End = Result<(Page, u8), u8>;
 
 // What the byte book says of the first pages: guest 1 may write pages 0 and 2, read pages 1 and 3, and has
 // nothing on page 4, which guest 2 may write, and on page 5, which is in its pool. It may write every other page.
@@ -48,14 +44,18 @@ impl Machine {
             bytes.push(OTHER_BYTE)?;
         }
         let words = vec![in heap; 0u32; (MEMORY_COUNT * PAGE_WORDS) as usize]?;
-        match Window::new(first, WINDOW_COUNT) {
-            Ok(window) => Ok(Machine {
-                memory: FlatWords::new(words),
-                book: ByteBook::new(bytes),
-                window,
-            }),
-            Err(_) => Err(Fail::new("no window")),
-        }
+        let pages = Span {
+            first,
+            count: WINDOW_COUNT,
+        };
+        let Ok(window) = Window::new(pages) else {
+            return Err(Fail::new("no window"));
+        };
+        Ok(Machine {
+            memory: FlatWords::new(words),
+            book: ByteBook::new(bytes),
+            window,
+        })
     }
 
     // Puts a word at a place of a physical page.
@@ -66,23 +66,21 @@ impl Machine {
         place: Place,
         word: Word,
     ) -> Result<(), Fail> {
-        assert_eq!(rt; refusal_number(self.memory.write(page, place, word)), OK);
+        assert_eq!(rt; numbered(self.memory.write(page, place, word)), OK);
         Ok(())
     }
 
     // How a walk of a guest ends.
-    fn end(&self, guest: Guest, paging: Paging, va: Address, access: Access) -> End {
-        match translate(
-            &self.memory,
-            &self.book,
-            self.window,
+    fn end(&self, guest: Guest, base: Option<Page>, va: Address, access: Access) -> End {
+        let view = View {
+            memory: &self.memory,
+            book: &self.book,
+            window: self.window,
             guest,
-            paging,
-            va,
-            access,
-        ) {
-            Ok(mapping) => End::Maps(mapping.page, mapping.right.rank()),
-            Err(abort) => End::Aborts(abort.code()),
+        };
+        match view.translate(base, va, access) {
+            Ok(mapping) => Ok((mapping.page, u8::from(mapping.right))),
+            Err(abort) => Err(u8::from(abort)),
         }
     }
 
@@ -91,11 +89,11 @@ impl Machine {
         &self,
         rt: &impl Abort,
         guest: Guest,
-        paging: Paging,
+        base: Option<Page>,
         va: Address,
         end: End,
     ) -> Result<(), Fail> {
-        assert_eq!(rt; self.end(guest, paging, va, Access::Read), end);
+        assert_eq!(rt; self.end(guest, base, va, Access::Read), end);
         Ok(())
     }
 
@@ -103,13 +101,13 @@ impl Machine {
     pub fn ends(
         &self,
         rt: &impl Abort,
-        paging: Paging,
+        base: Option<Page>,
         va: Address,
         read: End,
         write: End,
     ) -> Result<(), Fail> {
-        self.reads(rt, 1, paging, va, read)?;
-        assert_eq!(rt; self.end(1, paging, va, Access::Write), write);
+        self.reads(rt, 1, base, va, read)?;
+        assert_eq!(rt; self.end(1, base, va, Access::Write), write);
         Ok(())
     }
 }

@@ -1,40 +1,45 @@
-use Rattle.std.proofs.Common.{◌+◌, vec_items, arith}
+use Rattle.std.proofs.Common.{◌+◌, ◌∷◌, ◌++◌, [], Err, sym, vec_items, arith, ap, ◌∙◌, rules}
+use Rattle.platform.specs.declared.refusal.Refusal.{Refusal}
+use Rattle.listing.specs.declared.line.Line.{Line}
+use Rattle.runner.specs.Reports.{line}
 use Rattle.runner.specs.States.{state}
-use Rattle.runner.proofs.Lines.{stopped, went_on, ended_complete, ended_refused}
+use Rattle.runner.proofs.Lines.{stopped, went_on, ended_whole, ended_bad}
 use Rattle.runner.proofs.run.transcript.Goals as goal
+use Rattle.runner.proofs.run.transcript.Goals.{in-Err, in_default}
 
-pub returns-then-step : goal.returns-then-step
-returns-then-step c =
+pub returns-in-Break : goal.returns-in-Break
+returns-in-Break c =
+    let ls = vec_items c.commands.lines in
     record {
-      answer = stopped (state c.commands.session) (c.commands.i + 1) (vec_items c.args.script.now.commands) c.args.script.now.ending c.commands.i _ (vec_items c.commands.lines) c.commands.invariant.0
-          c.index-command.result.now (omega (arith, c.args.script.now.commands.ok.0, c.commands-test.true, c.len-i-end.ensures)) c.index-command.ensures
-          (record { after = state c.perform-step.new.self; step = c.perform-step.result }) c.perform-step.ensures.after c.perform-step.ensures.answer
-          c.kind.result c.kind.ensures.answer (vec_items c.push_reserved.new.self) c.push_reserved.ensures.items c.if-step.true;
+      answer = stopped (state c.commands.session) (c.commands.i + 1) (vec_items c.args.script.now.commands) c.args.script.now.end c.commands.i _ ls c.commands.invariant.all_lines
+          _ (omega arith) (search rules) (state c.perform.new.self) c.perform.ensures.after c.in-Break.outcome (vec_items c.push_reserved-in-Break.new.self)
+          (c.push_reserved-in-Break.ensures.items ∙ ap (λ (x : Line). ls ++ x ∷ []) c.line-in-Break.ensures.answer)
+          (sym c.in-Break.is ∙ c.perform.ensures.answer);
     }
 
 pub commands-preserved : goal.commands-preserved
-commands-preserved c = (
-  went_on (state c.commands.session) (c.commands.i + 1) (vec_items c.args.script.now.commands) c.args.script.now.ending c.commands.i _ (vec_items c.commands.lines) c.commands.invariant.0
-      c.index-command.result.now (omega (arith, c.args.script.now.commands.ok.0, c.commands-test.true, c.len-i-end.ensures)) c.index-command.ensures
-      (record { after = state c.perform-step.new.self; step = c.perform-step.result }) c.perform-step.ensures.after c.perform-step.ensures.answer
-      c.kind.result c.kind.ensures.answer (vec_items c.push_reserved.new.self) c.push_reserved.ensures.items c.if-step.false,
-  omega arith,
-  omega arith,
-)
-
-pub returns-in-Complete : goal.returns-in-Complete
-returns-in-Complete c =
+commands-preserved c =
+    let ls = vec_items c.commands.lines in
     record {
-      answer = ended_complete (state c.commands.session) (c.commands.i + 1) (vec_items c.args.script.now.commands) c.args.script.now.ending c.commands.i _ (vec_items c.commands.lines) c.commands.invariant.0
-          (omega (arith, c.args.script.now.commands.ok.0, c.commands-test.false, c.len-i-end.ensures)) c.in-Complete.is;
+      all_lines = went_on (state c.commands.session) (c.commands.i + 1) (vec_items c.args.script.now.commands) c.args.script.now.end c.commands.i _ ls c.commands.invariant.all_lines
+          _ (omega arith) (search rules) (state c.perform.new.self) c.perform.ensures.after c.in-Continue.outcome (vec_items c.push_reserved.new.self)
+          (c.push_reserved.ensures.items ∙ ap (λ (x : Line). ls ++ x ∷ []) c.line.ensures.answer)
+          (sym c.in-Continue.is ∙ c.perform.ensures.answer);
+      each_one = omega arith;
+      has_room = omega arith;
     }
 
 pub returns : goal.returns
 returns c =
-    record {
-      answer = ended_refused (state c.commands.session) (c.commands.i + 1) (vec_items c.args.script.now.commands) c.args.script.now.ending c.commands.i _ (vec_items c.commands.lines) c.commands.invariant.0
-          (omega (arith, c.args.script.now.commands.ok.0, c.commands-test.false, c.len-i-end.ensures))
-          (c.len-in-Refused.result + 1) c.in-Refused.kind c.in-Refused.refusal c.known_refusal.result c.in-Refused.is
-          (omega (arith, c.commands-test.false, c.len-i-end.ensures, c.len-in-Refused.ensures, c.commands.auto.i-end)) c.known_refusal.ensures.answer
-          (vec_items c.push_reserved-in-Refused.new.self) c.push_reserved-in-Refused.ensures.items;
-    }
+    let ls = vec_items c.commands.lines in
+    elim c.match-script.branch [
+      | in-Err w ↦ record {
+        answer = ap (λ v. vec_items v) w.lines-is ∙ ended_bad (state c.commands.session) (c.commands.i + 1) (vec_items c.args.script.now.commands) c.args.script.now.end c.commands.i _ ls c.commands.invariant.all_lines
+            (omega arith) (w.len-in-Err.result + 1) w.in-Err.bad w.in-Err.is (omega arith) _
+            (w.push_reserved-in-Err.ensures.items ∙ ap (λ (why : Refusal). ls ++ line (w.len-in-Err.result + 1) w.in-Err.bad.kind (Err why) ∷ []) w.known_refusal.ensures.answer);
+      }
+      | in_default w ↦ record {
+        answer = ap (λ v. vec_items v) w.lines-is ∙ ended_whole (state c.commands.session) (c.commands.i + 1) (vec_items c.args.script.now.commands) c.args.script.now.end c.commands.i _ ls c.commands.invariant.all_lines
+            (omega arith) w.in_default.is;
+      }
+    ]

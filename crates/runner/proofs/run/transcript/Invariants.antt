@@ -7,6 +7,8 @@ use Rattle.runner.proofs.run.transcript.Given as goal
 -- the lines so far, with those of the other commands, are all; each command has one, and there is room for one more
 abbrev pub invariant-commands : goal.invariant-commands
 invariant-commands l =
-    (lines_of (contents l.script) ≡ vec_items l.lines ++ lines_from (state l.session) (l.i + 1) (drop l.i (vec_items l.script.commands)) l.script.ending)
-    × (vec_len l.lines ≡ l.i)
-    × (vec_len l.script.commands + 1 ≤ vec_capacity l.lines)
+    record {
+      all_lines : lines_of (contents l.script) ≡ vec_items l.lines ++ lines_from (state l.session) (l.i + 1) (drop l.i (vec_items l.script.commands)) l.script.end;
+      each_one : vec_len l.lines ≡ l.i;
+      has_room : vec_len l.script.commands + 1 ≤ vec_capacity l.lines;
+    }

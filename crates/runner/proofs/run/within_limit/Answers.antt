@@ -1,5 +1,6 @@
-use Rattle.std.proofs.Common.{sym, arith, take_all}
+use Rattle.std.proofs.Common.{rules, arith}
+use Rattle.std.proofs.lemmas.List.{take_min}
 use Rattle.runner.proofs.run.within_limit.Goals as goal
 
-pub returns-else-input-gt-LIMIT : goal.returns-else-input-gt-LIMIT
-returns-else-input-gt-LIMIT c = record { answer = sym (take_all 16384 c.args.input.now (omega arith)) }
+pub returns : goal.returns
+returns c = let e = take_min 16384 c.args.input.now in grind (arith, rules, e)

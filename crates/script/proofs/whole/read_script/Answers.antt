@@ -1,60 +1,42 @@
-use Rattle.std.proofs.Common.{◌≡◌, ℕ, suc, ◌-◌, List, [], ◌∷◌, ◌++◌, length, drop, Ok, Err, vec_items, sym, ap, ◌∙◌, subst, arith}
-use Rattle.script.specs.Records.{reading_at, place_after, Spelled}
-use Rattle.script.specs.Readers.{left}
+use Rattle.std.proofs.Common.{◌≡◌, suc, ◌-◌, [], ◌∷◌, ◌++◌, Some, None, Ok, Err, vec_items, sym, subst, arith}
+use Rattle.std.proofs.lemmas.Grind.{common_steps}
+use Rattle.script.specs.Records.{reading}
 use Rattle.script.specs.Scripts.{step, script_from}
-use Rattle.script.proofs.Steps.{preceded, goes_on, more_said, all_said}
-use Rattle.script.proofs.Laws.{read_none, read_more, read_all}
+use Rattle.script.specs.Laws.{ReadsWhole}
+use Rattle.script.proofs.Laws.{read_more, shorter, read_to_end, read_to_bad}
 use Rattle.script.proofs.whole.read_script.Goals as goal
-
-pub records-init : goal.records-init
-records-init c =
-    let xs = c.args.input.now in
-    let none = c.new-commands.ensures.items in
-    let start = c.new-reader.ensures.answer.1 in (
-      c.new-reader.ensures.answer.0,
-      omega (arith, start),
-      read_none xs _ _ start none,
-      (length xs, omega arith, (λ k. preceded (sym none k) (script_from (suc (length xs)) xs (sym start k)))),
-    )
+use Rattle.script.proofs.whole.read_script.Goals.{in-Ok-None, in-Err}
 
 pub records-preserved : goal.records-preserved
+unfolding script_from
 records-preserved c =
     let i = c.records.invariant in
-    let turns = i.3.0 in
-    let xs = c.args.input.now in
-    let p = c.records.reader.place in
-    let q = c.next_command.new.self.place in
+    let xs = c.records.reader.rest.now in
+    let ys = c.next_command.new.self.rest.now in
     let cs = vec_items c.records.commands in
-    let command = c.in-Ok.command in
-    let e : step (reading_at xs p) ≡ Ok command = sym (c.in-Ok.ensures.answer ∙ ap (λ (zs : List ℕ). step (reading_at zs p)) i.0) in
-    let a : q ≡ place_after (reading_at xs p) p = c.next_command.ensures.after ∙ ap (λ (zs : List ℕ). place_after (reading_at zs p) p) i.0 in
-    let same : c.next_command.new.self.input.now ≡ xs = c.next_command.ensures.same ∙ i.0 in
-    let law = subst (λ (zs : List ℕ). Spelled (reading_at zs p) (drop p zs) (left c.next_command.new.self)) i.0 c.next_command.ensures.law in
-    let here = subst (λ (zs : List ℕ). Spelled (reading_at xs p) (drop p xs) (drop q zs)) same law in
-    let items : vec_items c.push.new.self ≡ cs ++ command ∷ [] = c.in_ok-push-in-Ok.ensures.items in
-    let within = ap length same in
-    let far = goes_on (reading_at xs p) p command e in
-    let w : turns ≡ suc (turns - 1) = omega arith in (
-      same,
-      omega (arith, c.in_ok-push-in-Ok.ensures.len),
-      read_more xs p q cs (vec_items c.push.new.self) command (reading_at xs p) i.2 e here items,
-      (
-        turns - 1,
-        omega arith,
-        i.3.2 ∙ more_said cs turns xs p command e ∙ (λ k. preceded (sym items k) (script_from (w k) xs (sym a k))),
-      ),
-    )
-
-pub returns-in-Err : goal.returns-in-Err
-returns-in-Err c =
-    let i = c.records.invariant in
-    let xs = c.args.input.now in
-    let p = c.records.reader.place in
-    let cs = vec_items c.records.commands in
-    let ending = c.in-Err.ending in
-    let e : step (reading_at xs p) ≡ Err ending = sym (c.in-Err.ensures.answer ∙ ap (λ (zs : List ℕ). step (reading_at zs p)) i.0) in
+    let command = c.in-Ok-Some.command in
+    let e : step (reading xs) ≡ Ok (Some command) = cc in
+    let items : vec_items c.push.new.self ≡ cs ++ command ∷ [] = c.in_ok-push-in-Ok-Some.ensures.items in
+    let s = shorter xs ys command (reading xs) e c.next_command.ensures.law in
+    let more : i.turns ≡ suc (i.turns - 1) = omega arith in
     record {
-      answer = sym (i.3.2 ∙ all_said cs i.3.0 xs p ending e);
-      law = read_all xs p cs ending i.2 e;
-      bound = omega (arith, ap length i.0);
+      bound = omega (arith, c.in_ok-push-in-Ok-Some.ensures.len);
+      read = let r = read_more _ xs ys cs command (reading xs) i.read e c.next_command.ensures.law in grind (arith, common_steps);
+      turns = i.turns - 1;
+      enough = omega arith;
+      said = grind (arith, common_steps);
     }
+
+pub returns-clause-answer : goal.returns-clause-answer
+unfolding script_from
+returns-clause-answer c = elim c.match-next_command.branch [ in-Ok-None w ↦ grind (arith, common_steps) | in-Err w ↦ grind (arith, common_steps) ]
+
+pub returns-clause-law : goal.returns-clause-law
+returns-clause-law c =
+    let i = c.records.invariant in
+    let xs = c.records.reader.rest.now in
+    let cs = vec_items c.records.commands in
+    elim c.match-next_command.branch [
+      | in-Ok-None w ↦ let e : step (reading xs) ≡ Ok None = cc in subst (ReadsWhole _ cs) (sym w.end-is) (read_to_end _ xs cs i.read e)
+      | in-Err w ↦ let e : step (reading xs) ≡ Err w.in-Err.bad = cc in subst (ReadsWhole _ cs) (sym w.end-is) (read_to_bad _ xs cs w.in-Err.bad i.read e)
+    ]

@@ -1,14 +1,14 @@
-use Rattle.std.proofs.Common.{◌+◌, sym, ap, ◌∙◌}
-use Rattle.runner.specs.States.{State, state}
-use Rattle.runner.specs.Starts.{admit_one}
-use Rattle.runner.proofs.Counts.{admit_none, admit_more}
+use Rattle.std.proofs.Common.{◌∙◌, arith}
+use Rattle.runner.specs.States.{state}
+use Rattle.runner.proofs.Counts.{admit_none, admit_next}
 use Rattle.runner.proofs.session.Session.admit_all.Goals as goal
 
-pub loop-i-init : goal.loop-i-init
-loop-i-init c = sym (admit_none (state c.args.self.now))
+pub loop-guest-init : goal.loop-guest-init
+loop-guest-init c = admit_none (state c.args.self.now)
 
-pub loop-i-preserved : goal.loop-i-preserved
-loop-i-preserved c =
-    c.admit_pooled.ensures.after
-    ∙ ap (λ (s : State). admit_one s (c.loop-i.i + 1)) c.loop-i.invariant
-    ∙ sym (admit_more (state c.args.self.now) c.loop-i.i)
+pub loop-guest-preserved : goal.loop-guest-preserved
+loop-guest-preserved c =
+    λ k e. c.admit_pooled.ensures.after ∙ admit_next (state c.args.self.now) (state c.loop-guest.self) c.loop-guest.guest k (omega arith) c.loop-guest.invariant e
+
+pub returns : goal.returns
+returns c = record { after = c.loop-guest.invariant 8 (omega arith) }

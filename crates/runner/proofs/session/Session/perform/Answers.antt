@@ -1,13 +1,13 @@
-use Rattle.std.proofs.Common.{◌≡◌, true, sym, ap, ◌∙◌}
-use Rattle.runner.specs.declared.session.Step.{Step}
+use Rattle.std.proofs.Common.{◌≡◌, true, sym, ap, ◌∙◌, is_err}
+use Rattle.std.specs.declared.ops.ControlFlow.{ControlFlow}
 use Rattle.runner.specs.States.{State, state}
-use Rattle.runner.specs.Turns.{is_refused, perform}
+use Rattle.runner.specs.Turns.{Outcome, outcome_of, perform}
 use Rattle.runner.proofs.Refused.{refused_same}
 use Rattle.script.specs.declared.command.Command.{Command}
 use Rattle.runner.proofs.session.Session.perform.Goals as goal
 
-same : (s t : State) (r : Step) (c : Command) → r ≡ (perform s c).step → t ≡ (perform s c).after → is_refused r.outcome ≡ true → t ≡ s
-same s t r c a b e = b ∙ refused_same s c (ap (λ (x : Step). is_refused x.outcome) (sym a) ∙ e)
+same : (s t : State) (r : ControlFlow Outcome Outcome) (c : Command) → r ≡ (perform s c).step → t ≡ (perform s c).after → is_err (outcome_of r) ≡ true → t ≡ s
+same s t r c a b e = b ∙ refused_same s c (ap (λ (x : ControlFlow Outcome Outcome). is_err (outcome_of x)) (sym a) ∙ e)
 
 pub returns-then-self : goal.returns-then-self
 returns-then-self c =
