@@ -14,7 +14,7 @@ const ROOM: usize = 32;
 // Up to 32 grants, and one pool a guest, that of guest 1 first. Over each page the greatest grant counts.
 // The table of grants is made once, at its full size.
 // kept: the grants are a list that is searched, and no map. Its room is fixed, and no call but `new` may allocate.
-// kept: no `impl Model`. The laws of a book are proved of each value, and of a ledger that is not tidy they do not hold.
+// kept: no `impl Model`. The laws of a book would then be of every ledger, and of one that is not tidy they do not hold.
 #[derive(Drop)]
 pub struct IntervalBook {
     grants: Vec<Grant>,

@@ -8,7 +8,7 @@ use platform::right::Right;
 use platform::units::{Address, Page, Place, Word};
 
 // What a first-level word says at an address. Pages are guest pages in a guest's tables.
-// kept: `page` and `right` stand side by side in three cases here and are no struct: each case says what its page is.
+// kept: `page` and `right` stand side by side in three cases and are no struct; whoever matches takes them apart at once.
 #[derive(Clone, Copy, Debug, PartialEq, Eq)]
 pub enum FirstLevel {
     // No translation.
@@ -33,7 +33,7 @@ pub enum SecondLevel {
 }
 
 // The type of a table word: bits 1 and 0.
-// kept: a number. Each level reads it in its own way, and at once as a case of `FirstLevel` or `SecondLevel`.
+// kept: a number. Each level reads it in its own way, and turns it into a case of `FirstLevel` or `SecondLevel` at once.
 fn entry_type(word: Word) -> u32
     ensures answer { result ≡ entry_type word }
 {
@@ -85,6 +85,7 @@ pub fn small_page(word: Word) -> Page
 }
 
 // What a first-level word says.
+// kept: a word and an address are two parameters, and no struct, which each caller would make for one call.
 pub fn first_level(word: Word, va: Address) -> FirstLevel
     ensures answer { result ≡ first_level word va }
 {

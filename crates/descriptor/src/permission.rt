@@ -7,7 +7,7 @@ use platform::right::Right;
 use platform::units::Word;
 
 // The right that a three-bit access permission gives: 0 and 4 nothing, 1 to 3 write, the others read.
-// kept: a number. It is three bits of a word, which stand for a `Right` as soon as they are read.
+// kept: a number. It is three bits of a word, which are turned into a `Right` as soon as they are read.
 pub fn permitted(permission: u32) -> Right
     ensures answer { result ≡ permitted permission }
 {
@@ -18,7 +18,8 @@ pub fn permitted(permission: u32) -> Right
     }
 }
 
-// kept: the two differ in the format's constants alone; a generic function would have these at its calls, and a `requires`.
+// kept: the two differ in the format's constants alone. A generic function would be passed them where they cannot be read as
+// a field's, and would need a `requires`.
 
 // The access permission of a section: bit 15, then bits 11 and 10.
 pub fn section_permission(word: Word) -> u32

@@ -3,8 +3,9 @@ use platform::units::{Address, Page};
 
 // What is kept of one guest: whether it is admitted, its paging state and the page of its base,
 // and its fault status, which is a code and an address and 0 before any abort.
-// kept: two flags beside values. A base stays while paging is off, and a guest that is not admitted has the record that it
-// will begin with; an Option would have to be taken apart by each reader, and by its owner alone be put together again.
+// kept: two flags beside values. A base stays while paging is off; and were the record of a guest that is not admitted missing,
+// that of the guest that runs would have to be unwrapped, though it is there.
+// kept: code and address are no struct of their own; they are answered as a pair, as the listing prints them.
 #[derive(Clone, Copy, Debug, PartialEq, Eq)]
 pub struct GuestRecord {
     pub admitted: bool,

@@ -9,7 +9,7 @@ mod calls;
 mod setup;
 
 // The record of each guest, that of guest 1 first, and the guest that runs, if any.
-// kept: no `impl Model`. It was tried: antt finds no code for a roster as its `Value`, since that has a function in it.
+// kept: no `impl Model`. It was tried, and the check refuses a `Value` that has a function in it, as a roster has.
 #[derive(Drop)]
 pub struct Guests {
     records: [GuestRecord; 8],

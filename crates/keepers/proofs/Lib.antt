@@ -5,4 +5,4 @@ pub mod Sets
 pub mod Shares
 pub mod Values
 pub mod Lawful
-pub mod Makes
+pub mod ByMake

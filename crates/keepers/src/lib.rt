@@ -1,8 +1,9 @@
-// Page keepers: one that keeps stacks, one that keeps marks.
+// The page keeper, over the pages of one guest, and two makes of these: stacks and marks.
 #![tactic(auto)]
 
 pub mod keeper;
 pub mod laws;
+pub mod makes;
 pub mod mark;
 pub mod marks;
 pub mod share;

@@ -1,4 +1,4 @@
-// A keeper that goes round its marks from the page that was taken last.
+// The make of a page keeper that goes round its marks from the page that was taken last.
 ghost use Rattle.std.specs.Prelude.{◌≡◌, ◌≤◌, true, vec_len, vec_capacity};
 ghost use Rattle.keepers.specs.Rows.{pages_of};
 ghost use Rattle.keepers.specs.Sets.{distinct};

@@ -1,4 +1,4 @@
-// A keeper that takes the page that was given last.
+// The make of a page keeper that takes the page that was given last.
 ghost use Rattle.std.specs.Prelude.{◌≡◌, ◌≤◌, true, vec_len, vec_capacity};
 ghost use Rattle.keepers.specs.Sets.{stacked};
 

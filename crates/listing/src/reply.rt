@@ -11,7 +11,8 @@ pub enum Reply {
     // It was served.
     Done,
     // The guest takes an abort, with this fault status.
-    // kept: a number, which is printed as it is. The aborts have their names in `walk`, on which the listing does not rest.
+    // kept: a number, which is printed as it is. By a rule of the project the listing rests on `platform` alone, and the aborts
+    // have their names in `walk`.
     Abort(u8),
     // It was answered a word.
     Word(u32),

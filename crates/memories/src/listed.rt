@@ -18,7 +18,7 @@ pub struct ListedPage {
 
 // Up to 12 pages, each under its number, no number twice. The table is made once, at its full size.
 // kept: a list that is searched, and no map. Its room is fixed, and no call but `new` may allocate.
-// kept: no `impl Model`. It was tried: antt finds no code for a catalog as its `Value`, since its memory has functions in it.
+// kept: no `impl Model`. It was tried, and the check refuses a `Value` that has a function in it, as a catalog has.
 #[derive(Drop)]
 pub struct ListedPages {
     pages: Vec<ListedPage>,

@@ -10,7 +10,7 @@ use Rattle.script.specs.Commands.{kind_of}
 use Rattle.listing.specs.declared.line.Line.{Line}
 use Rattle.runner.specs.States.{State}
 use Rattle.runner.specs.Turns.{Outcome, perform}
-use Rattle.runner.specs.Reports.{line, known, last_line, turn_lines, lines_from}
+use Rattle.runner.specs.Reports.{line, known, shown_kind, last_line, turn_lines, lines_from}
 
 -- all lines are those so far, `ls`, and those of the commands from the i-th on
 module _ (s : State) (n : ℕ) (cs : List Command) (e : Result (Unit {0}) BadRecord) (i : ℕ) (all ls : List Line) (inv : all ≡ ls ++ lines_from s n (drop i cs) e) where
@@ -49,9 +49,9 @@ module _ (s : State) (n : ℕ) (cs : List Command) (e : Result (Unit {0}) BadRec
   pub ended_whole : length cs ≤ i → e ≡ Ok tt → ls ≡ all
   ended_whole l h = sym (ended l ∙ ap (λ (x : Result (Unit {0}) BadRecord). ls ++ last_line n x) h ∙ append-nil ls)
 
-  pub ended_bad : length cs ≤ i → (m : ℕ) (bad : BadRecord) → e ≡ Err bad → m ≡ n
-      → (out : List Line) → out ≡ ls ++ line m bad.kind (Err (known bad.kind bad.refusal)) ∷ [] → out ≡ all
-  ended_bad l m bad h p out r =
+  pub ended_bad : length cs ≤ i → (m kind : ℕ) (bad : BadRecord) → e ≡ Err bad → m ≡ n → kind ≡ shown_kind bad
+      → (out : List Line) → out ≡ ls ++ line m kind (Err (known kind bad.refusal)) ∷ [] → out ≡ all
+  ended_bad l m kind bad h p q out r =
       r
-      ∙ (λ j. ls ++ line (p j) bad.kind (Err (known bad.kind bad.refusal)) ∷ [])
+      ∙ (λ j. ls ++ line (p j) (q j) (Err (known (q j) bad.refusal)) ∷ [])
       ∙ sym (ended l ∙ ap (λ (x : Result (Unit {0}) BadRecord). ls ++ last_line n x) h)

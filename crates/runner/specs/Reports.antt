@@ -1,5 +1,5 @@
 -- What the program prints for a script.
-use Rattle.std.specs.Prelude.{ℕ, ◌+◌, cond, ◌&&◌, List, [], ◌∷◌, take, nat_le, Ok, Err, Result}
+use Rattle.std.specs.Prelude.{ℕ, ◌+◌, cond, ◌&&◌, List, [], ◌∷◌, take, nat_le, Ok, Err, Result, unwrap_or}
 use Rattle.std.specs.declared.ops.ControlFlow.{ControlFlow}
 use Rattle.std.specs.declared.ops.ControlFlow.TheVariants.{Continue, Break}
 use Rattle.platform.specs.declared.refusal.Refusal.{Refusal}
@@ -21,10 +21,14 @@ line n kind o = record { number = n; kind = kind; outcome = o }
 abbrev pub known : ℕ → Refusal → Refusal
 known kind why = cond (nat_le 20 kind && nat_le kind 24) UnknownKind why
 
+-- the number that the listing has for the kind of a record: 0 for one that is cut
+abbrev pub shown_kind : BadRecord → ℕ
+shown_kind bad = unwrap_or bad.kind 0
+
 -- the line of the record at which reading stopped, if any
 abbrev pub last_line : ℕ → Result (Unit {0}) BadRecord → List Line
 last_line n (Ok x) = []
-last_line n (Err bad) = line n bad.kind (Err (known bad.kind bad.refusal)) ∷ []
+last_line n (Err bad) = line n (shown_kind bad) (Err (known (shown_kind bad) bad.refusal)) ∷ []
 
 -- the line of the n-th record, of some kind, and then those that follow, unless the program stops
 abbrev pub turn_lines : ℕ → ℕ → ControlFlow Outcome Outcome → List Line → List Line

@@ -11,7 +11,7 @@ use Rattle.runner.specs.States.{State}
 
 -- guest g has a pool, and in it fewer than two pages to enrol below page n
 abbrev pub short_guest : State → ℕ → ℕ → Bool
-short_guest s n g = has_pool s.book.pools g && nat_lt (enrollable_below s.memory.mem (book_of s.book) g n) 2
+short_guest s n g = has_pool s.book.pools g && nat_lt (enrollable_below s.memory.mem (book_of s.book) (Some g) n) 2
 
 -- one of the guests 1 to k is short
 unfoldable pub any_short : State → ℕ → ℕ → Bool

@@ -6,15 +6,16 @@ use platform::book::RightsBook;
 use platform::memory::Memory;
 use platform::units::Guest;
 
-// The number that stands for no guest.
-// kept: a number. By it a caller may ask for the pages that are in no pool, as it may for a guest's.
-const NOBODY: Guest = 0;
-
-// How many of the pages 0 to `count - 1` are in a guest's pool and in the memory; for 0, in the memory and in no pool.
-pub fn enrollable<M: Memory, B: RightsBook>(memory: &M, book: &B, count: u32, guest: Guest) -> u32
-    ensures answer { result ≡ enrollable_below (M.Memory.contents memory.now) (B.RightsBook.rules book.now) guest count }
+// How many of the pages 0 to `count - 1` are in the memory and in the pool of an owner, or in no pool where none is asked for.
+pub fn enrollable<M: Memory, B: RightsBook>(
+    memory: &M,
+    book: &B,
+    count: u32,
+    owner: Option<Guest>,
+) -> u32
+    ensures answer { result ≡ enrollable_below (M.Memory.contents memory.now) (B.RightsBook.rules book.now) owner count }
 {
     (0..count)
-        .filter(|page| book.pool(*page).unwrap_or(NOBODY) == guest && memory.has(*page))
+        .filter(|page| book.pool(*page) == owner && memory.has(*page))
         .count() as u32
 }

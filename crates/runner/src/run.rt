@@ -15,6 +15,9 @@ use std::ops::ControlFlow::{Break, Continue};
 // No more of the input is read.
 pub const LIMIT: usize = 16_384;
 
+// The listing has this number for the kind of a record that is cut.
+const CUT_KIND: u16 = 0;
+
 // Why a record of some kind is refused: the calls that touch tables are not served yet, and so their kinds are unknown,
 // whatever the body.
 fn known_refusal(kind: u16, refusal: Refusal) -> Refusal
@@ -63,10 +66,11 @@ pub fn transcript(heap: Global, script: &Script) -> Result<Vec<Line>, AllocError
         }
     }
     if let Err(bad) = script.end {
+        let kind = bad.kind.unwrap_or(CUT_KIND);
         lines.push_reserved(Line {
             number: script.commands.len() as u64 + 1,
-            kind: bad.kind,
-            outcome: Err(known_refusal(bad.kind, bad.refusal)),
+            kind,
+            outcome: Err(known_refusal(kind, bad.refusal)),
         });
     }
     Ok(lines)

@@ -11,8 +11,9 @@ mod setup;
 mod start;
 
 // The last accepted window, the memory, the rights book and the guests' records, and whether start was accepted.
-// kept: `started` is a flag, and not a type for each state. Records come in any order, and a refused one leaves the state.
-// kept: no `impl Model`, for the reason that `Guests` and `ListedPages` have none: a state has their functions in it.
+// kept: `started` is a flag, and not a type for each state. Records come in any order, and one of the wrong phase is refused and
+// leaves all as it was.
+// kept: no `impl Model`, for the reason of `Guests` and `ListedPages`: a state has theirs in it.
 #[derive(Drop)]
 pub struct Session {
     window: Option<Window>,
@@ -22,5 +23,5 @@ pub struct Session {
     started: bool,
 }
 
-// What came of a command: the program goes on after it, or it stops.
+// What came of a command: the program goes on after it, or it stops. Either way the record has its line.
 pub type Step = ControlFlow<Outcome, Outcome>;

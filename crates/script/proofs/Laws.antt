@@ -56,13 +56,13 @@ stops_record : (xs : List ℕ) (kind : ℕ) (body : List ℕ) (b : BadRecord) (s
     → admitted kind s ≡ Err b → Stops xs (Err b)
 stops_record xs kind body b (Ok command) e d h = absurd (cc)
 stops_record xs kind body b (Err why) e d h =
-    let g : bad kind why ≡ b = cc in
+    let g : bad (Some kind) why ≡ b = cc in
     subst (λ (z : BadRecord). Stops xs (Err z)) g (inr (body, e, d))
 
 stops_bad : (xs : List ℕ) (b : BadRecord) (r : Reading) → reading xs ≡ r → step r ≡ Err b → Stops xs (Err b)
 stops_bad xs b (found kind body) e h = stops_record xs kind body b (command_of kind body) e refl h
 stops_bad xs b (refused why) e h =
-    let g : bad 0 why ≡ b = cc in
+    let g : bad None why ≡ b = cc in
     let w = only_cut xs why e in
     subst (λ (z : BadRecord). Stops xs (Err z)) g (inl (e ∙ ap refused w, refl, w))
 stops_bad xs b ended e h = absurd (cc)

@@ -1,6 +1,6 @@
 -- The law of reading a whole script: nothing is lost, and nothing is made up.
 use Rattle.std.specs.List.{flat_map}
-use Rattle.std.specs.Prelude.{◌≡◌, ℕ, ◌⊎◌, List, [], ◌++◌, map, Ok, Err, Result}
+use Rattle.std.specs.Prelude.{◌≡◌, ℕ, ◌⊎◌, List, [], ◌++◌, map, Some, None, Ok, Err, Option, Result}
 use Rattle.platform.specs.declared.refusal.Refusal.{Refusal}
 use Rattle.platform.specs.declared.refusal.Refusal.TheVariants.{RecordCut}
 use Rattle.script.specs.declared.command.Command.{Command}
@@ -21,13 +21,14 @@ spellings rs = flat_map (λ r. spelling r.kind r.body) rs
 abbrev pub said : RawRecord → Result Command Refusal
 said r = command_of r.kind r.body
 
--- the bytes begin with a record that is cut, which goes by kind 0
-abbrev pub BeginsCut : List ℕ → ℕ → Refusal → Type 0
-BeginsCut left kind why = (reading left ≡ refused RecordCut) × (kind ≡ 0) × (why ≡ RecordCut)
+-- the bytes begin with a record that is cut, which has no kind
+abbrev pub BeginsCut : List ℕ → Option ℕ → Refusal → Type 0
+BeginsCut left kind why = (reading left ≡ refused RecordCut) × (kind ≡ None) × (why ≡ RecordCut)
 
 -- the bytes begin with a whole record of this kind, which says no command
-abbrev pub BeginsRefused : List ℕ → ℕ → Refusal → Type 0
-BeginsRefused left kind why = (body : List ℕ) × (reading left ≡ found kind body) × (command_of kind body ≡ Err why)
+abbrev pub BeginsRefused : List ℕ → Option ℕ → Refusal → Type 0
+BeginsRefused left None why = ⊥
+BeginsRefused left (Some kind) why = (body : List ℕ) × (reading left ≡ found kind body) × (command_of kind body ≡ Err why)
 
 -- why reading stops before the bytes that are left: there are none, or they begin with a record that is refused
 abbrev pub Stops : List ℕ → Result (Unit {0}) BadRecord → Type 0

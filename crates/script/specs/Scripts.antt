@@ -17,18 +17,18 @@ abbrev pub contents : Script → Contents
 contents s = record { commands = vec_items s.commands; end = s.end }
 
 -- a record at which reading stops
-abbrev pub bad : ℕ → Refusal → BadRecord
+abbrev pub bad : Option ℕ → Refusal → BadRecord
 bad kind why = record { kind = kind; refusal = why }
 
 -- the command of a record of some kind, or that reading stops at the record
 abbrev pub admitted : ℕ → Result Command Refusal → Result (Option Command) BadRecord
 admitted kind (Ok command) = Ok (Some command)
-admitted kind (Err why) = Err (bad kind why)
+admitted kind (Err why) = Err (bad (Some kind) why)
 
--- the command that was found, if any, or the record at which reading stops: a cut record goes by kind 0
+-- the command that was found, if any, or the record at which reading stops: a cut record has no kind
 abbrev pub step : Reading → Result (Option Command) BadRecord
 step (found kind body) = admitted kind (command_of kind body)
-step (refused why) = Err (bad 0 why)
+step (refused why) = Err (bad None why)
 step ended = Ok None
 
 -- a command and then the rest; nothing follows where reading stops

@@ -19,7 +19,8 @@ pub enum Command {
     // The pages that a guest's page tables are built in.
     Pool { guest: Guest, span: Span },
     // What a guest may do on some pages: `right` 1 is read, 2 is write.
-    // kept: `right` is the number as it stands in the script, which tests expect; a `Right` does not tell it.
+    // kept: `right` is the number as it stands in the script. By a rule of the project tests keep their values, and one reads a
+    // number here that a `Right` cannot give back.
     Grant { guest: Guest, span: Span, right: u8 },
     // Setting up ends.
     Start,

@@ -33,6 +33,7 @@ impl<'a> Fields<'a> {
     }
 
     // The next byte.
+    // kept: this and the two below are of one shape. To be one function they would want a trait of our own for three types.
     pub fn byte(&mut self) -> Result<u8, Refusal>
         ensures answer { result ≡ next_field 1 self.old.rest.now }
         ensures after { OnOk result (self.new.rest.now ≡ drop 1 self.old.rest.now) }

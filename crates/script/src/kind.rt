@@ -4,9 +4,6 @@ ghost use Rattle.script.specs.Kinds.{kind_number, kind_numbered};
 
 use platform::refusal::Refusal;
 
-// The kind number by which a cut record goes. It names no kind.
-pub const CUT_KIND: u16 = 0;
-
 // The kinds of records: those up to `Start` set up, the others call.
 #[derive(Clone, Copy, Debug, PartialEq, Eq)]
 pub enum Kind {
@@ -29,6 +26,7 @@ pub enum Kind {
 }
 
 // The number by which a kind goes in a script.
+// kept: a `match`, for the reason of `Refusal`.
 impl From<Kind> for u16 {
     ghost from_gives = { λ kind n. n ≡ kind_number kind };
 

@@ -11,7 +11,7 @@ mod record;
 mod whole;
 
 pub use command::Command;
-pub use kind::{CUT_KIND, Kind};
+pub use kind::Kind;
 pub use reader::ScriptReader;
 pub use record::Record;
 pub use whole::{BadRecord, Script, read_script};

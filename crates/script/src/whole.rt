@@ -5,16 +5,15 @@ ghost use Rattle.script.specs.Scripts.{step, contents, script_of};
 ghost use Rattle.script.specs.Laws.{ReadsWhole};
 
 use super::command::Command;
-use super::kind::CUT_KIND;
 use super::reader::ScriptReader;
 use platform::refusal::Refusal;
 use std::alloc::{AllocError, Global};
 
-// The record at which reading stopped: the number of its kind, which is 0 where it is cut, and why it is refused.
+// The record at which reading stopped: the number of its kind, if it is whole, and why it is refused.
 // kept: the kind is a number, as in `Record`.
 #[derive(Clone, Copy, Debug, PartialEq, Eq)]
 pub struct BadRecord {
-    pub kind: u16,
+    pub kind: Option<u16>,
     pub refusal: Refusal,
 }
 
@@ -33,14 +32,14 @@ impl<'a> ScriptReader<'a> {
         ensures law { Spelled (reading self.old.rest.now) self.old.rest.now self.new.rest.now }
     {
         let next = self.next().map_err(|refusal| BadRecord {
-            kind: CUT_KIND,
+            kind: None,
             refusal,
         })?;
         let Some(record) = next else {
             return Ok(None);
         };
         let command = record.command().map_err(|refusal| BadRecord {
-            kind: record.kind,
+            kind: Some(record.kind),
             refusal,
         })?;
         Ok(Some(command))

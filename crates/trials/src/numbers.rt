@@ -1,4 +1,5 @@
 // What tests compare: an answer with the number of its refusal.
+// kept: numbers. By a rule of the project tests expect what the rules say, and these speak of refusals by number.
 use platform::refusal::Refusal;
 
 // A call that was served, and has nothing to tell.

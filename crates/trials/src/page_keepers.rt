@@ -113,13 +113,12 @@ fn the_marks_keep_their_meaning(rt: HostRuntime) -> Result<(), Fail> {
     keeps_its_meaning(&rt, &mut MarksKeeper::new(rt.alloc())?)
 }
 
-// A call for guest 1: it enrols a page, gives one back, takes this one, or has none to take.
+// A call for guest 1: it enrols a page, gives one back, or takes this one, where there is one to take.
 #[derive(Clone, Copy)]
 enum Step {
     Enrols(Page),
     Gives(Page),
-    Takes(Page),
-    HasNone,
+    Takes(Option<Page>),
 }
 
 // Each call of a list is answered so.
@@ -128,8 +127,7 @@ fn follows<K: PageKeeper>(rt: &impl Abort, keeper: &mut K, steps: &[Step]) -> Re
         match *step {
             Step::Enrols(page) => assert_eq!(rt; numbered(keeper.enrol(1, page)), OK),
             Step::Gives(page) => assert_eq!(rt; numbered(keeper.give(1, page)), OK),
-            Step::Takes(page) => assert_eq!(rt; numbered(keeper.take(1)), Ok(page)),
-            Step::HasNone => assert_eq!(rt; numbered(keeper.take(1)), Err(33)),
+            Step::Takes(page) => assert_eq!(rt; numbered(keeper.take(1)), page.ok_or(33)),
         }
     }
     Ok(())
@@ -139,17 +137,17 @@ const STACK_STEPS: [Step; 14] = [
     Step::Enrols(10),
     Step::Enrols(11),
     Step::Enrols(12),
-    Step::Takes(12),
-    Step::Takes(11),
+    Step::Takes(Some(12)),
+    Step::Takes(Some(11)),
     Step::Gives(12),
-    Step::Takes(12),
-    Step::Takes(10),
-    Step::HasNone,
+    Step::Takes(Some(12)),
+    Step::Takes(Some(10)),
+    Step::Takes(None),
     Step::Gives(10),
     Step::Gives(12),
     Step::Enrols(13),
-    Step::Takes(13),
-    Step::Takes(12),
+    Step::Takes(Some(13)),
+    Step::Takes(Some(12)),
 ];
 
 #[test]
@@ -162,17 +160,17 @@ const MARKS_STEPS: [Step; 15] = [
     Step::Enrols(11),
     Step::Enrols(12),
     Step::Enrols(13),
-    Step::Takes(10),
-    Step::Takes(11),
+    Step::Takes(Some(10)),
+    Step::Takes(Some(11)),
     Step::Gives(10),
-    Step::Takes(12),
-    Step::Takes(13),
-    Step::Takes(10),
-    Step::HasNone,
+    Step::Takes(Some(12)),
+    Step::Takes(Some(13)),
+    Step::Takes(Some(10)),
+    Step::Takes(None),
     Step::Gives(10),
     Step::Gives(12),
-    Step::Takes(12),
-    Step::Takes(10),
+    Step::Takes(Some(12)),
+    Step::Takes(Some(10)),
 ];
 
 #[test]

@@ -40,12 +40,11 @@ pub fn record(heap: Global, kind: u16, length: u16) -> Result<Vec<u8>, AllocErro
 
 // The number of the refusal of the first record, if it is refused.
 fn first_refusal(input: &[u8]) -> Option<u8> {
-    let record = ScriptReader::new(input).next();
-    let command = record.and_then(|found| match found {
-        Some(record) => record.command().map(Some),
-        None => Ok(None),
-    });
-    numbered(command).err()
+    match ScriptReader::new(input).next() {
+        Ok(Some(record)) => numbered(record.command()).err(),
+        Ok(None) => None,
+        Err(refusal) => Some(u8::from(refusal)),
+    }
 }
 
 #[test]

@@ -22,6 +22,7 @@ pub enum Abort {
 }
 
 // The fault status code.
+// kept: a `match`, for the reason of `Refusal`.
 impl From<Abort> for u8 {
     ghost from_gives = { λ abort n. n ≡ code abort };
 

@@ -32,7 +32,7 @@ fn permits(right: Right, access: Access) -> bool
     }
 }
 
-// What a guest looks through: the memory, the book and the window.
+// A guest, and what it looks through: the memory, the book and the window.
 #[derive(Drop)]
 pub struct View<'m, 'b, M, B> {
     pub memory: &'m M,

@@ -23,20 +23,15 @@ fn given(grant: &Grant, guest: Guest, page: Page) -> Right
     }
 }
 
-// Whether a pool, if any, has a page.
-fn holds(pool: Option<Span>, page: Page) -> bool
-    ensures answer { result ≡ pool_covers pool page }
-{
-    pool.is_some_and(|pages| pages.covers(page))
-}
-
 impl IntervalBook {
     // Where the pool that a page is in stands, if any.
     fn pool_place(&self, page: Page) -> Option<usize>
         ensures answer { result ≡ position (λ o. pool_covers o page) self.now.pools }
         ensures within { IfSome result (λ i. i < 8) }
     {
-        self.pools.iter().position(|pool| holds(*pool, page))
+        self.pools
+            .iter()
+            .position(|pool| pool.is_some_and(|pages| pages.covers(page)))
     }
 }
 
@@ -55,7 +50,7 @@ impl RightsBook for IntervalBook {
     fn right(&self, guest: Guest, page: Page) -> Right {
         let mut best = Right::Nothing;
         for grant in &self.grants {
-            best = best.max(given(grant, guest, page));
+            best = best.greater(given(grant, guest, page));
         }
         best
     }

@@ -27,13 +27,6 @@ fn clash(x: &Grant, y: &Grant) -> bool
         && y.right == Right::Write
 }
 
-// Whether a pool, if any, lies over a span.
-fn lies_over(pool: Option<Span>, span: Span) -> bool
-    ensures answer { result ≡ pool_overlaps pool span }
-{
-    pool.is_some_and(|pages| pages.overlaps(span))
-}
-
 impl IntervalBook {
     // No grant and no pool yet.
     pub fn new(heap: Global) -> Result<Self, AllocError>
@@ -64,7 +57,9 @@ impl IntervalBook {
     fn is_pooled(&self, span: Span) -> bool
         ensures answer { result ≡ over_pool self.now.pools span }
     {
-        self.pools.iter().any(|pool| lies_over(*pool, span))
+        self.pools
+            .iter()
+            .any(|pool| pool.is_some_and(|pages| pages.overlaps(span)))
     }
 
     // Whether a guest has a pool.

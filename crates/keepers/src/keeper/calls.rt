@@ -13,13 +13,6 @@ use platform::refusal::Refusal;
 use platform::units::{GUESTS, Guest, Page};
 use std::alloc::{AllocError, Global};
 
-// Whether some guest has a page.
-fn is_held<S: PageShare>(shares: &Vec<S>, page: Page) -> bool
-    ensures answer { result ≡ list_any (λ s. member page (S.share (S.order s)).pages) shares.now.items }
-{
-    shares.iter().any(|share| share.holds(page))
-}
-
 impl<S: PageShare> Keeper<S> {
     // No page yet, and room for all.
     pub fn new(heap: Global) -> Result<Self, AllocError>
@@ -31,6 +24,13 @@ impl<S: PageShare> Keeper<S> {
             shares.push_reserved(S::new(heap)?);
         }
         Ok(Keeper { shares })
+    }
+
+    // Whether some guest has a page.
+    fn is_held(&self, page: Page) -> bool
+        ensures answer { result ≡ list_any (λ s. member page (S.share (S.order s)).pages) self.now.shares.items }
+    {
+        self.shares.iter().any(|share| share.holds(page))
     }
 }
 
@@ -53,7 +53,7 @@ impl<S: PageShare> PageKeeper for Keeper<S> {
         ensures order { orders_of S.none S.order self.new ≡ changed_if result S.added (orders_of S.none S.order self.old) guest page }
     {
         let place = place_of(guest)?;
-        if is_held(&self.shares, page) {
+        if self.is_held(page) {
             return Err(Refusal::KeeperRefuses);
         }
         self.shares[place].add(page)

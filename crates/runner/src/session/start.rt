@@ -17,10 +17,11 @@ impl Session {
         ensures answer { result ≡ short_guest (state self.now) count guest }
     {
         self.book.has_pool(guest)
-            && enrollable(&self.memory, &self.book, count, guest) < LEAST_PAGES
+            && enrollable(&self.memory, &self.book, count, Some(guest)) < LEAST_PAGES
     }
 
     // Whether that is so of some guest.
+    // kept: a loop. As `any` over the guests it was tried, and the search for its proof stopped at a limit.
     fn is_any_short(&self, count: u32) -> bool
         ensures answer { result ≡ any_short (state self.now) count 8 }
     {

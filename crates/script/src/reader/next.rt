@@ -18,6 +18,7 @@ impl<'a> ScriptReader<'a> {
     }
 
     // The record that is next, and the reader moves past it. The end and a refusal leave the reader as it was.
+    // kept: no `Iterator`. After a refusal it would give the same again for ever, which no loop over it could be proved to end.
     pub fn next(&mut self) -> Result<Option<Record<'a>>, Refusal>
         ensures answer { seen result ≡ reading self.old.rest.now }
         ensures after { self.new.rest.now ≡ rest_after (seen result) self.old.rest.now }

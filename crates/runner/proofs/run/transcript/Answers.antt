@@ -35,8 +35,8 @@ returns c =
     elim c.match-script.branch [
       | in-Err w ↦ record {
         answer = ap (λ v. vec_items v) w.lines-is ∙ ended_bad (state c.commands.session) (c.commands.i + 1) (vec_items c.args.script.now.commands) c.args.script.now.end c.commands.i _ ls c.commands.invariant.all_lines
-            (omega arith) (w.len-in-Err.result + 1) w.in-Err.bad w.in-Err.is (omega arith) _
-            (w.push_reserved-in-Err.ensures.items ∙ ap (λ (why : Refusal). ls ++ line (w.len-in-Err.result + 1) w.in-Err.bad.kind (Err why) ∷ []) w.known_refusal.ensures.answer);
+            (omega arith) (w.len-in-Err.result + 1) w.unwrap_or-kind.result w.in-Err.bad w.in-Err.is (omega arith) (search rules) _
+            (w.push_reserved-in-Err.ensures.items ∙ ap (λ (why : Refusal). ls ++ line (w.len-in-Err.result + 1) w.unwrap_or-kind.result (Err why) ∷ []) w.known_refusal.ensures.answer);
       }
       | in_default w ↦ record {
         answer = ap (λ v. vec_items v) w.lines-is ∙ ended_whole (state c.commands.session) (c.commands.i + 1) (vec_items c.args.script.now.commands) c.args.script.now.end c.commands.i _ ls c.commands.invariant.all_lines
