@@ -18,8 +18,8 @@ pub fn permitted(permission: u32) -> Right
     }
 }
 
-// kept: the two differ in the format's constants alone. A generic function would be passed them where they cannot be read as
-// a field's, and would need a `requires`.
+// kept: the two differ in the format's bit numbers alone. A generic function would take them as parameters, which says less than
+// the names of the format's fields, and would need a `requires` on them.
 
 // The access permission of a section: bit 15, then bits 11 and 10.
 pub fn section_permission(word: Word) -> u32

@@ -6,7 +6,7 @@ pub mod laws;
 pub mod makes;
 pub mod mark;
 pub mod marks;
-pub mod share;
+mod share;
 pub mod stack;
 pub mod uses;
 

@@ -119,6 +119,7 @@ const GRANTS: [(u8, u32, u32, u8, Result<(), u8>); 14] = [
     (1, 4, 2, 1, OK),
 ];
 
+// kept: the right is a number, as the rules and a script have it.
 fn grant(book: &mut IntervalBook, guest: u8, first: u32, count: u32, right: u8) -> Result<(), u8> {
     let span = Span { first, count };
     let right = Right::from(right);

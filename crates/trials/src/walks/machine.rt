@@ -13,7 +13,7 @@ use std::test::*;
 use walk::view::View;
 
 // How a walk ends: on a physical page with a right's number, or with a fault status code.
-// kept: numbers, as in `numbers.rt`: the rules give a code for each abort.
+// kept: numbers, as in `numbers.rt`: the rules give a code for each abort and a number for each right.
 pub type End = Result<(Page, u8), u8>;
 
 // What the byte book says of the first pages: guest 1 may write pages 0 and 2, read pages 1 and 3, and has
