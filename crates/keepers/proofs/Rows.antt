@@ -26,10 +26,10 @@ pages_any (m ∷ ms) p = let h = pages_any ms p in search rules
 pub found_within : (ms : List Mark) (p : ℕ) → nat_lt (place_of ms p) (length ms) ≡ member p (pages_of ms)
 found_within ms p = any_within (λ (m : Mark). eqb m.page p) ms ∙ pages_any ms p
 
-place_within : (ms : List Mark) (p : ℕ) → member p (pages_of ms) ≡ true → place_of ms p < length ms
+pub place_within : (ms : List Mark) (p : ℕ) → member p (pages_of ms) ≡ true → place_of ms p < length ms
 place_within ms p e = let w = found_within ms p in search rules
 
-page_place : (ms : List Mark) (p : ℕ) → member p (pages_of ms) ≡ true → page_at ms (place_of ms p) ≡ p
+pub page_place : (ms : List Mark) (p : ℕ) → member p (pages_of ms) ≡ true → page_at ms (place_of ms p) ≡ p
 page_place [] p e = search rules
 page_place (m ∷ ms) p e = let h = page_place ms p in search rules
 
@@ -48,7 +48,7 @@ page_within [] i l = search rules
 page_within (m ∷ ms) zero l = search rules
 page_within (m ∷ ms) (suc i) l = let h = page_within ms i (search rules) in search rules
 
-free_read : (ms : List Mark) (i : ℕ) (x : Mark) → distinct (pages_of ms) ≡ true → i < length ms → x ≡ get_or ms i x → is_free ms (page_at ms i) ≡ x.free
+pub free_read : (ms : List Mark) (i : ℕ) (x : Mark) → distinct (pages_of ms) ≡ true → i < length ms → x ≡ get_or ms i x → is_free ms (page_at ms i) ≡ x.free
 free_read [] i x d l e = search rules
 free_read (m ∷ ms) zero x d l e =
     let n = free_stranger ms m.page in

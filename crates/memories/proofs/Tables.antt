@@ -24,7 +24,7 @@ lists_found [] p = refl
 lists_found (x ∷ xs) p = let h = lists_found xs p in search rules
 
 -- the page at its place
-words_place : (xs : List ListedPage) (p : ℕ) (x : ListedPage) → lists xs p ≡ true → words_of xs p ≡ (get_or xs (place_of xs p) x).words
+pub words_place : (xs : List ListedPage) (p : ℕ) (x : ListedPage) → lists xs p ≡ true → words_of xs p ≡ (get_or xs (place_of xs p) x).words
 words_place [] p x l = search rules
 words_place (y ∷ xs) p x l = let h = words_place xs p x in search rules
 
@@ -33,7 +33,7 @@ number_place [] p x l = search rules
 number_place (y ∷ xs) p x l = let h = number_place xs p x in search rules
 
 -- a page that stands at i is listed
-found_place : (xs : List ListedPage) (p i : ℕ) → found_at xs p ≡ Some i → (lists xs p ≡ true) × (i ≡ place_of xs p)
+pub found_place : (xs : List ListedPage) (p i : ℕ) → found_at xs p ≡ Some i → (lists xs p ≡ true) × (i ≡ place_of xs p)
 found_place xs p i e = let h = lists_found xs p in search rules
 
 -- the words of a page that stands at i

@@ -76,11 +76,13 @@ pub fn transcript(heap: Global, script: &Script) -> Result<Vec<Line>, AllocError
     Ok(lines)
 }
 
-// All that the program prints for a script.
+// All that the program prints for a script. The script is let go before the text is made, so that both are never in memory.
 pub fn report(heap: Global, input: &[u8]) -> Result<String, AllocError>
     ensures answer { IfOk result (λ s. string_bytes s ≡ report_of input.now) }
 {
-    let script = read_script(heap, within_limit(input))?;
-    let lines = transcript(heap, &script)?;
+    let lines = {
+        let script = read_script(heap, within_limit(input))?;
+        transcript(heap, &script)?
+    };
     render(heap, lines.as_slice())
 }

@@ -27,10 +27,17 @@ impl<S: PageShare> Keeper<S> {
     }
 
     // Whether some guest has a page.
+    // kept: a loop by an index, here and in `empty`. In a chain, or over `iter_mut`, an edit that leaves a guest out is refused for
+    // its form alone: one of the same form that leaves nobody out is refused as well.
     fn is_held(&self, page: Page) -> bool
         ensures answer { result ≡ list_any (λ s. member page (S.share (S.order s)).pages) self.now.shares.items }
     {
-        self.shares.iter().any(|share| share.holds(page))
+        for place in 0..self.shares.len() {
+            if self.shares[place].holds(page) {
+                return true;
+            }
+        }
+        false
     }
 }
 
@@ -42,8 +49,8 @@ impl<S: PageShare> PageKeeper for Keeper<S> {
         ensures after { holdings_of S.share S.order self.new ≡ emptied }
         ensures order { orders_of S.none S.order self.new ≡ (λ _. S.none) }
     {
-        for share in self.shares.iter_mut() {
-            share.clear();
+        for i in 0..self.shares.len() {
+            self.shares[i].clear();
         }
     }
 

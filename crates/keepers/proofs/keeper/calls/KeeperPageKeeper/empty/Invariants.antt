@@ -1,6 +1,7 @@
+use Rattle.std.proofs.Common.{vec_items}
 use Rattle.keepers.proofs.Values.{Plain}
 use Rattle.keepers.proofs.keeper.calls.KeeperPageKeeper.empty.Given as goal
 
--- the shares so far are without pages
-abbrev pub invariant-loop-share : goal.invariant-loop-share
-invariant-loop-share g l = Plain g.S.PageShare.none g.S.PageShare.order l.share-items l.share-index
+-- the first i shares are without pages
+abbrev pub invariant-loop-i : goal.invariant-loop-i
+invariant-loop-i g l = Plain g.S.PageShare.none g.S.PageShare.order (vec_items l.self.shares) l.i
